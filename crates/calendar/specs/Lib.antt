@@ -1,0 +1,4 @@
+pub mod Calendar
+pub mod Faults
+pub mod Hours
+pub mod Panel

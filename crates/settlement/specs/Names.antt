@@ -1,0 +1,34 @@
+-- The twelve setpoints: their numbers and names. Assumes nothing.
+use mathlib.Core.List.{List}
+use Prim.Native.Nat.{ℕ}
+use lib.Chars.{codes}
+use Rattle.settlement.specs.declared.setpoint.Setpoint.{Setpoint}
+use Rattle.settlement.specs.declared.setpoint.Setpoint.the-variants.{AccountNumber, ContractedPower, InstalledPower, ZoneMode, PurchaseBase, FreeSalePrice, SaleRule, Distribution, Transmission, StorageMetered, FirstMonth, PayoutFloor}
+
+abbrev pub setpoint-number : Setpoint → ℕ
+setpoint-number AccountNumber = 1
+setpoint-number ContractedPower = 2
+setpoint-number InstalledPower = 3
+setpoint-number ZoneMode = 4
+setpoint-number PurchaseBase = 5
+setpoint-number FreeSalePrice = 6
+setpoint-number SaleRule = 7
+setpoint-number Distribution = 8
+setpoint-number Transmission = 9
+setpoint-number StorageMetered = 10
+setpoint-number FirstMonth = 11
+setpoint-number PayoutFloor = 12
+
+abbrev pub name : Setpoint → List ℕ
+name AccountNumber = codes "account number"
+name ContractedPower = codes "contracted power"
+name InstalledPower = codes "installed power"
+name ZoneMode = codes "zone mode"
+name PurchaseBase = codes "purchase base price"
+name FreeSalePrice = codes "free sale price"
+name SaleRule = codes "sale rule"
+name Distribution = codes "distribution tariff"
+name Transmission = codes "transmission tariff"
+name StorageMetered = codes "storage metered"
+name FirstMonth = codes "first month"
+name PayoutFloor = codes "payout floor"

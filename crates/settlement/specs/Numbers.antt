@@ -1,0 +1,15 @@
+-- The numbers by which the setpoints write a sale rule and the storage flag. Assumes nothing.
+use Prim.Native.Nat.{ℕ}
+use Rattle.settlement.specs.declared.values.SaleRule.{SaleRule}
+use Rattle.settlement.specs.declared.values.SaleRule.the-variants.{DayAhead, CappedDayAhead, FreePrice}
+use Rattle.settlement.specs.declared.values.StorageMetering.{StorageMetering}
+use Rattle.settlement.specs.declared.values.StorageMetering.the-variants.{Unmetered, Metered}
+
+abbrev pub rule-number : SaleRule → ℕ
+rule-number DayAhead = 1
+rule-number CappedDayAhead = 2
+rule-number FreePrice = 3
+
+abbrev pub storage-number : StorageMetering → ℕ
+storage-number Unmetered = 0
+storage-number Metered = 1

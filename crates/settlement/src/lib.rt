@@ -1,0 +1,37 @@
+// The site whose account is kept: its twelve setpoints, checked at once.
+mod fault;
+mod setpoint;
+mod setpoints;
+mod values;
+
+pub use fault::SetpointFault;
+pub use fault::SetpointFaultDebug;
+pub use fault::SetpointFaultDisplay;
+pub use fault::SetpointFaultEq;
+pub use fault::SetpointFaultPartialEq;
+pub use setpoint::Setpoint;
+pub use setpoint::SetpointDebug;
+pub use setpoint::SetpointDisplay;
+pub use setpoint::SetpointEq;
+pub use setpoint::SetpointPartialEq;
+pub use setpoints::Setpoints;
+pub use values::AccountNumber;
+pub use values::AccountNumberDebug;
+pub use values::AccountNumberEq;
+pub use values::AccountNumberPartialEq;
+pub use values::Kopiykas;
+pub use values::KopiykasDebug;
+pub use values::KopiykasEq;
+pub use values::KopiykasPartialEq;
+pub use values::SaleRule;
+pub use values::SaleRuleDebug;
+pub use values::SaleRuleEq;
+pub use values::SaleRulePartialEq;
+pub use values::StorageMetering;
+pub use values::StorageMeteringDebug;
+pub use values::StorageMeteringEq;
+pub use values::StorageMeteringPartialEq;
+pub use values::Watts;
+pub use values::WattsDebug;
+pub use values::WattsEq;
+pub use values::WattsPartialEq;

@@ -1,0 +1,15 @@
+-- The refusals of the tariffs: number, places and words. Assumes nothing.
+use mathlib.Core.List.{List}
+use Prim.Native.Nat.{ℕ}
+use lib.Chars.{codes}
+use Rattle.calendar.specs.Faults.{bare}
+use Rattle.calendar.specs.declared.returned.Returned.{Returned}
+use Rattle.tariffs.specs.declared.fault.TariffFault.{TariffFault}
+use Rattle.tariffs.specs.declared.fault.TariffFault.the-variants.{NotAllowed}
+
+abbrev pub returned-tariff : TariffFault → Returned
+returned-tariff NotAllowed = bare 12
+
+-- the words for a person
+abbrev pub words-tariff : TariffFault → List ℕ
+words-tariff NotAllowed = codes "the zone mode is not 1 to 3, or the base price is above 10000000 kopiykas per MWh"

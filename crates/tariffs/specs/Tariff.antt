@@ -1,0 +1,21 @@
+-- What making a zone tariff from numbers gives. Assumes nothing.
+use mathlib.Core.Bool.{Bool, false, _&&_}
+use mathlib.Core.Path.{_≡_}
+use Prim.Native.Nat.{ℕ}
+use Rattle.std.specs.declared.result.Result.{Result}
+use Rattle.std.specs.declared.result.Result.the-variants.{Ok, Err}
+use Rattle.calendar.specs.Calendar.{within}
+use Rattle.tariffs.specs.Rates.{isRate}
+use Rattle.tariffs.specs.Zones.{mode-number}
+use Rattle.tariffs.specs.declared.fault.TariffFault.{TariffFault}
+use Rattle.tariffs.specs.declared.fault.TariffFault.the-variants.{NotAllowed}
+use Rattle.tariffs.specs.declared.zone_tariff.ZoneTariff.{ZoneTariff}
+
+-- mode 1, 2 or 3, and a base price that may be set
+abbrev pub allowed : ℕ → ℕ → Bool
+allowed mode base = within 1 3 mode && isRate base
+
+-- the tariff of that mode and base, or the refusal where they are not allowed
+abbrev pub Checked : ℕ → ℕ → Result ZoneTariff TariffFault → Type 0
+Checked mode base (Ok tariff) = (mode-number (tariff .mode) ≡ mode) × (tariff .base .«kopiykas_per_mwh» ≡ base)
+Checked mode base (Err fault) = (allowed mode base ≡ false) × (fault ≡ NotAllowed)
