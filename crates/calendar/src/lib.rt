@@ -23,8 +23,6 @@ pub use month::MonthPartialEq;
 pub use returned::Returned;
 pub use returned::ReturnedDebug;
 pub use returned::ReturnedDisplay;
-pub use returned::ReturnedEq;
-pub use returned::ReturnedPartialEq;
 pub use stamp::Stamp;
 pub use stamp::StampDebug;
 pub use stamp::StampEq;

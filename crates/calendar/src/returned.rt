@@ -3,7 +3,7 @@ ghost use Rattle.std.specs.declared.option.Option.the-variants.{Some};
 ghost use Rattle.calendar.specs.Panel.{panel};
 use std::fmt;
 
-#[derive(Clone, Copy, Debug, PartialEq, Eq)]
+#[derive(Clone, Copy, Debug)]
 pub struct Returned {
     pub number: u32,
     pub places: [u32; 5],

@@ -1,7 +1,9 @@
+ghost use mathlib.Core.Bool.{true};
 ghost use mathlib.Core.Path.{_≡_};
 ghost use Rattle.std.specs.Slices.{found};
 ghost use Rattle.std.specs.Vec.{made};
-ghost use Rattle.calendar.specs.Hours.{checked-date, date?};
+ghost use Rattle.calendar.specs.Calendar.{isDate};
+ghost use Rattle.calendar.specs.Hours.{checked-date, date as date-of, date?};
 use super::Date;
 use crate::fault::CalendarFault;
 use crate::month::Month;
@@ -17,6 +19,14 @@ impl Date {
             return None;
         }
         Some(Date { year, month, day })
+    }
+
+    // The day of numbers that are known to name one.
+    pub(crate) fn of(year: u16, month: u8, day: u8) -> Date
+        requires { ⌜ isDate year month day ≡ true ⌝ }
+        ensures { λ r. ⌜ r ≡ date-of year month day ⌝ }
+    {
+        Date { year, month, day }
     }
 
     // A day of a month: refusal 4 where there is no such month, then 25 where the month has no such day.

@@ -1,8 +1,9 @@
+ghost use mathlib.Core.Bool.{true};
 ghost use mathlib.Core.Path.{_≡_};
 ghost use Rattle.std.specs.Slices.{found};
 ghost use Rattle.std.specs.Vec.{made};
-ghost use Rattle.calendar.specs.Calendar.{days as days-of, number as number-of, within};
-ghost use Rattle.calendar.specs.Hours.{checked-month, month?, next-month};
+ghost use Rattle.calendar.specs.Calendar.{days as days-of, isMonth, number as number-of, within};
+ghost use Rattle.calendar.specs.Hours.{checked-month, month as month-of, month?, next-month};
 use super::Month;
 use crate::fault::CalendarFault;
 
@@ -16,6 +17,14 @@ impl Month {
             return None;
         }
         Some(Month { year, month })
+    }
+
+    // The month of numbers that are known to name one.
+    pub(crate) fn of(year: u16, month: u8) -> Month
+        requires { ⌜ isMonth year month ≡ true ⌝ }
+        ensures { λ r. ⌜ r ≡ month-of year month ⌝ }
+    {
+        Month { year, month }
     }
 
     // The month of a year, or refusal 4.

@@ -38,20 +38,13 @@ impl Stamp {
     pub fn month(self) -> Month
         ensures answer { λ r. ⌜ r ≡ its-month self ⌝ }
     {
-        let Stamp { year, month, .. } = self;
-        Month { year, month }
+        Month::of(self.year, self.month)
     }
 
     // The date that the hour lies on.
     pub fn date(self) -> Date
         ensures answer { λ r. ⌜ r ≡ its-date self ⌝ }
     {
-        let Stamp {
-            year,
-            month,
-            day,
-            ..
-        } = self;
-        Date { year, month, day }
+        Date::of(self.year, self.month, self.day)
     }
 }

@@ -86,32 +86,18 @@ impl Setpoints {
     pub fn check(numbers: [u32; 12]) -> Result<Setpoints, SetpointFault>
         ensures answer { λ r. ⌜ Checked numbers r ⌝ }
     {
-        let [
-            account,
-            contracted,
-            installed,
-            mode,
-            base,
-            free,
-            rule,
-            distribution,
-            transmission,
-            metered,
-            first,
-            floor,
-        ] = numbers;
-        let account = AccountNumber(ranged(Setpoint::AccountNumber, account, 1, 999_999_999)?);
-        let contracted_power = Watts(ranged(Setpoint::ContractedPower, contracted, 1, 1_000_000)?);
-        let installed_power = Watts(ranged(Setpoint::InstalledPower, installed, 1, 30_000)?);
-        let zone_mode = zone_mode(mode)?;
-        let purchase_base = rate(Setpoint::PurchaseBase, base)?;
-        let free_sale_price = rate(Setpoint::FreeSalePrice, free)?;
-        let sale_rule = sale_rule(rule)?;
-        let distribution = rate(Setpoint::Distribution, distribution)?;
-        let transmission = rate(Setpoint::Transmission, transmission)?;
-        let storage = storage(metered)?;
-        let first_month = first_month(first)?;
-        let payout_floor = Kopiykas(ranged(Setpoint::PayoutFloor, floor, 1, 1_000_000_000)?);
+        let account = AccountNumber(ranged(Setpoint::AccountNumber, numbers[0], 1, 999_999_999)?);
+        let contracted_power = Watts(ranged(Setpoint::ContractedPower, numbers[1], 1, 1_000_000)?);
+        let installed_power = Watts(ranged(Setpoint::InstalledPower, numbers[2], 1, 30_000)?);
+        let zone_mode = zone_mode(numbers[3])?;
+        let purchase_base = rate(Setpoint::PurchaseBase, numbers[4])?;
+        let free_sale_price = rate(Setpoint::FreeSalePrice, numbers[5])?;
+        let sale_rule = sale_rule(numbers[6])?;
+        let distribution = rate(Setpoint::Distribution, numbers[7])?;
+        let transmission = rate(Setpoint::Transmission, numbers[8])?;
+        let storage = storage(numbers[9])?;
+        let first_month = first_month(numbers[10])?;
+        let payout_floor = Kopiykas(ranged(Setpoint::PayoutFloor, numbers[11], 1, 1_000_000_000)?);
         if installed_power.0 > contracted_power.0 {
             return Err(SetpointFault::InstalledAboveContracted);
         }

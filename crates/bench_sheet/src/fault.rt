@@ -1,0 +1,7 @@
+// Why a line cannot be read. Columns are counted from 1.
+#[derive(Clone, Copy, Debug, PartialEq, Eq)]
+pub enum LineFault {
+    NotADigit(usize),
+    TooLarge(usize),
+    TooMany,
+}
