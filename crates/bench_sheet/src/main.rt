@@ -101,7 +101,7 @@ fn show_zone_clock(rt: &LibcRuntime, setpoints: &Setpoints) -> io::Result<()> {
 // The figures of the bench are proved, so that none of them can fail here.
 fn show_figures(rt: &LibcRuntime) -> io::Result<()> {
     let count = figures_that_hold();
-    println!(rt, "Bench figures: {count} of {count} hold, by proof")
+    println!(rt, "Bench figures: {count} hold, by proof")
 }
 
 fn run(rt: &LibcRuntime) -> Result<(), AnyError> {
