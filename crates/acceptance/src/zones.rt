@@ -4,8 +4,6 @@ use calendar::Month;
 use calendar::Returned;
 use std::test::*;
 use tariffs::PriceSource;
-use tariffs::Rate;
-use tariffs::SourceFault;
 use tariffs::ZoneMode;
 use tariffs::ZoneTariff;
 use tariffs::ZoneTariffSource;

@@ -2,10 +2,13 @@
 use mathlib.Core.Bool.{Bool, cond, _||_}
 use mathlib.Core.List.{List, [], _∷_, _++_}
 use mathlib.Core.Path.{_≡_}
-use Prim.Native.Nat.{ℕ, _+_, _-_, _*_, _^_}
+use Prim.Native.Nat.{ℕ, _+_, _-_, _*_, _^_, _≤_, _<_}
 use lib.Dec.{eqb, ltb}
 use lib.ListN.{length, take}
+use Rattle.std.specs.Joined.{joined}
 use Rattle.std.specs.Results.{Cases}
+use Rattle.std.specs.Written.{decimal}
+use Rattle.std.specs.shelf.Lists.{All}
 use Rattle.std.specs.declared.option.Option.{Option}
 use Rattle.std.specs.declared.option.Option.the-variants.{Some, None}
 use Rattle.std.specs.declared.result.Result.{Result}
@@ -54,3 +57,11 @@ reading ns begun column (b ∷ bs) =
 -- a line read behind the numbers before it: the numbers now, or the first thing that cannot be read
 abbrev pub Reads : List ℕ → List ℕ → Result Typed LineFault → Type 0
 Reads ns line r = Cases r (λ t. reading ns None 1 (uncommented line) ≡ Ok (entered t)) (λ fault. reading ns None 1 (uncommented line) ≡ Err fault)
+
+-- numbers in decimal, each with a blank behind it
+abbrev pub written : List ℕ → List ℕ
+written ns = joined (λ n. decimal n ++ 32 ∷ []) ns
+
+-- what is written so is read as it was meant: no digit is lost, and no number falls together with the next
+abbrev pub ReadsBack : Type 0
+ReadsBack = (ns : List ℕ) → All (λ n. n < 2 ^ 32) ns → length ns ≤ 12 → reading [] None 1 (uncommented (written ns)) ≡ Ok ns

@@ -42,9 +42,9 @@ line-row line (NotADigit column) = codes "line " ++ (decimal line ++ (codes ", c
 line-row line (TooLarge column) = codes "line " ++ (decimal line ++ (codes ", column " ++ (decimal column ++ codes ": a number above 4294967295")))
 line-row line TooMany = codes "line " ++ (decimal line ++ codes ": more than twelve numbers")
 
--- too few numbers
-abbrev pub count-row : ℕ → List ℕ
-count-row count = decimal count ++ codes " numbers were typed in, and a sheet has twelve"
+-- the last line, and how many numbers there were by then
+abbrev pub count-row : ℕ → ℕ → List ℕ
+count-row line count = codes "after line " ++ (decimal line ++ (codes ": only " ++ (decimal count ++ codes " of twelve numbers")))
 
 -- a point is a ten-thousandth of a kopiyka per kWh: four decimals
 abbrev pub per-kwh : ℕ → List ℕ

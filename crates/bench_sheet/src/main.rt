@@ -47,7 +47,7 @@ fn typed_in(rt: &LibcRuntime) -> Result<[u32; 12], AnyError> {
     }
     match typed.twelve() {
         Some(numbers) => Ok(numbers),
-        None => Err(rows::count_row(rt.alloc(), typed.count())?.into()),
+        None => Err(rows::count_row(rt.alloc(), number, typed.count())?.into()),
     }
 }
 
@@ -124,7 +124,11 @@ fn run(rt: &LibcRuntime) -> Result<(), AnyError> {
 }
 
 fn main(rt: LibcRuntime) -> Result<(), AnyError> {
-    rt.report(run(&rt))
+    let played = run(&rt);
+    if let Err(error) = &played {
+        eprintln!(rt, "bench_sheet: {error}")?;
+    }
+    played
 }
 
 #[cfg(test)]

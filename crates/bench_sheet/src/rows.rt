@@ -73,14 +73,11 @@ pub fn line_row(heap: Global, line: u64, fault: LineFault) -> Result<String, All
     }
 }
 
-// Too few numbers.
-pub fn count_row(heap: Global, count: usize) -> Result<String, AllocError>
-    ensures { λ r. ⌜ made r (λ t. string-bytes t ≡ count-row count) ⌝ }
+// The last line came too soon.
+pub fn count_row(heap: Global, line: u64, count: usize) -> Result<String, AllocError>
+    ensures { λ r. ⌜ made r (λ t. string-bytes t ≡ count-row line count) ⌝ }
 {
-    format!(
-        heap,
-        "{count} numbers were typed in, and a sheet has twelve"
-    )
+    format!(heap, "after line {line}: only {count} of twelve numbers")
 }
 
 // A price in points as kopiykas per kWh.

@@ -1,14 +1,13 @@
 -- Which numbers are hours of a day. Assumes nothing.
-use mathlib.Core.Bool.{true, _&&_}
-use mathlib.Core.Logic.{inl, inr, ⊎-elim}
-use mathlib.Core.Path.{_≡_, refl}
+use mathlib.Core.Bool.{true}
+use mathlib.Core.Logic.{⊎-elim}
+use mathlib.Core.Path.{_≡_}
 use Prim.Native.Nat.{ℕ, zero, suc, _+_, _≤_, _<_}
 use lib.Dec.{eqb, ltb}
 use native.Mathlib.Omega.{arith}
-use Rattle.std.proofs.shelf.Tests.{cases-eq, eq-eqb, eqb-true, or-left, or-right, or-cases, and-parts, and-from, ltb-true, lt-ltb, le-ltb, cases-lt, false≢true, both-ways}
+use Rattle.std.proofs.shelf.Tests.{cases-eq, eq-eqb, eqb-true, or-left, or-right, or-cases, and-parts, and-from, ltb-true, lt-ltb, false≢true}
 use Rattle.std.proofs.shelf.Ways.{same-from-decides, decides-ltb}
 use Rattle.std.specs.Iters.{counting}
-use Rattle.std.specs.Orderings.{Decides}
 use Rattle.calendar.specs.Calendar.{among, clock, isDate, isHour}
 
 among-from : (a n h : ℕ) → a ≤ h → h < a + n → among h (counting a n) ≡ true

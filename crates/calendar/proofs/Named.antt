@@ -1,16 +1,12 @@
 -- The numbers of a month, a date or a stamp name it and no other; and what checking them gives. Assumes nothing.
-use mathlib.Core.Bool.{Bool, Bool-set, true, false, cond, _&&_}
-use mathlib.Core.Path.{_≡_, refl, ap, sym, _∙_}
+use mathlib.Core.Bool.{Bool, Bool-set, true, false}
+use mathlib.Core.Path.{_≡_, refl, ap, sym}
 use Prim.Native.Nat.{ℕ}
-use Rattle.std.proofs.shelf.Tests.{false≢true, and-parts, and-right, cond-true}
-use Rattle.std.specs.Options.{okOr, valueOr}
-use Rattle.std.specs.Results.{okPart}
-use Rattle.std.specs.declared.option.Option.{Option}
+use Rattle.std.proofs.shelf.Tests.{false≢true, and-parts, and-right}
+use Rattle.std.specs.Options.{valueOr}
 use Rattle.std.specs.declared.option.Option.the-variants.{Some, None}
-use Rattle.std.specs.declared.result.Result.the-variants.{Ok, Err}
 use Rattle.calendar.specs.Calendar.{isMonth, isDate, isHour, among, clock, within, days}
-use Rattle.calendar.specs.Hours.{when, month?, date?, stamp?, month, date, stamp, checked-month, checked-date, checked-stamp, first-month, first-date, first-hour}
-use Rattle.calendar.specs.declared.fault.CalendarFault.the-variants.{NoSuchMonth, NotInMonth}
+use Rattle.calendar.specs.Hours.{when, month?, date?, stamp?, month, date, stamp, first-month, first-date, first-hour}
 use Rattle.calendar.specs.declared.date.Date.{Date}
 use Rattle.calendar.specs.declared.month.Month.{Month}
 use Rattle.calendar.specs.declared.stamp.Stamp.{Stamp}

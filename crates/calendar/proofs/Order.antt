@@ -13,9 +13,9 @@ use Rattle.std.proofs.shelf.Ways.{tells}
 use Rattle.std.specs.Finite.{nth}
 use Rattle.std.specs.Iters.{counting}
 use Rattle.std.specs.Joined.{joined}
-use Rattle.std.specs.declared.option.Option.the-variants.{Some, None}
+use Rattle.std.specs.declared.option.Option.the-variants.{Some}
 use Rattle.calendar.specs.Calendar.{days, isMonth, isDate, isHour, clock, within}
-use Rattle.calendar.specs.Hours.{date, stamp, stamp?, dates, day-hours, hours, hour-count, its-month, Placed}
+use Rattle.calendar.specs.Hours.{date, stamp, dates, day-hours, hours, hour-count, its-month, Placed}
 use Rattle.calendar.specs.declared.date.Date.{Date}
 use Rattle.calendar.specs.declared.month.Month.{Month}
 use Rattle.calendar.specs.declared.stamp.Stamp.{Stamp}

@@ -1,5 +1,5 @@
 -- Which years, months, days and hours the account has, as plain numbers. Assumes nothing.
-use mathlib.Core.Bool.{Bool, cond, true, false, _&&_, _||_}
+use mathlib.Core.Bool.{Bool, cond, false, _&&_, _||_}
 use mathlib.Core.List.{List, [], _∷_}
 use Prim.Native.Nat.{ℕ, _+_, _*_, _%_}
 use lib.Dec.{eqb, leb}

@@ -17,6 +17,7 @@ pub enum ZoneMode {
 
 // Tenths of the base price: a row for each mode, a column for each hour 0 to 23.
 const COEFFICIENTS: [u8; 72] = [
+    // one zone: every hour alike
     10,
     10,
     10,
@@ -41,6 +42,7 @@ const COEFFICIENTS: [u8; 72] = [
     10,
     10,
     10,
+    // two zones: night 23:00 to 07:00
     5,
     5,
     5,
@@ -65,6 +67,7 @@ const COEFFICIENTS: [u8; 72] = [
     10,
     10,
     5,
+    // three zones: night 23:00 to 07:00, peaks 08:00 to 11:00 and 20:00 to 22:00
     4,
     4,
     4,

@@ -1,5 +1,4 @@
 // A tariff by zones: the base price, weighted by the hour.
-ghost use mathlib.Core.Path.{_≡_};
 ghost use Rattle.tariffs.specs.Prices.{zoned};
 ghost use Rattle.tariffs.specs.Tariff.{Checked};
 use crate::fault::SourceFault;

@@ -1,14 +1,14 @@
 // Numbers are read off a line of text: digits, with blanks between; a # starts a comment.
-ghost use mathlib.Core.List.{List, [], _∷_};
+ghost use mathlib.Core.List.{[]};
 ghost use mathlib.Core.Path.{_≡_};
-ghost use Prim.Native.Nat.{ℕ, _+_, _<_, _≤_};
+ghost use Prim.Native.Nat.{_+_, _<_, _≤_};
 ghost use lib.ListN.{length};
 ghost use Rattle.std.specs.Options as Options;
 ghost use Rattle.std.specs.Results.{Cases};
 ghost use Rattle.std.specs.declared.option.Option.the-variants.{None};
 ghost use Rattle.std.specs.declared.result.Result.the-variants.{Ok, Err};
 ghost use Rattle.bench_sheet.specs.Scanning.{Steps};
-ghost use Rattle.bench_sheet.specs.Reading.{ended as ended-by, entered, grown as grown-by, uncommented, Reads};
+ghost use Rattle.bench_sheet.specs.Reading.{ended as ended-by, entered, grown as grown-by, uncommented, Reads, ReadsBack};
 use super::Typed;
 use crate::fault::LineFault;
 
@@ -48,8 +48,10 @@ fn grown(begun: Option<u32>, byte: u8, column: usize) -> Result<u32, LineFault>
 }
 
 impl Typed {
+    // A sheet with nothing on it yet.
     pub fn none() -> Typed
-        ensures { λ r. ⌜ entered r ≡ [] ⌝ }
+        ensures answer { λ r. ⌜ entered r ≡ [] ⌝ }
+        ensures law { λ _. ⌜ ReadsBack ⌝ }
     {
         Typed {
             numbers: [0; 12],

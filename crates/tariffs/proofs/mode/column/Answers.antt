@@ -1,5 +1,4 @@
 use Rattle.calendar.proofs.Clock.{hour-below}
-use native.Mathlib.Omega.{arith}
 use borrow.Author.Needs.{needs}
 use Rattle.tariffs.proofs.mode.column.Needs as need
 

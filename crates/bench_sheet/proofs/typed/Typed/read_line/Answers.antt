@@ -1,7 +1,6 @@
-use mathlib.Core.List.{List, _∷_}
 use mathlib.Core.Path.{_≡_, refl, ap, sym, _∙_}
-use Prim.Native.Nat.{ℕ, _+_}
-use lib.ListN.{drop, getD}
+use Prim.Native.Nat.{_+_}
+use lib.ListN.{drop}
 use Rattle.std.proofs.shelf.Lists.{at-drop-more, at-drop-all}
 use Rattle.std.proofs.shelf.Results.{cases-weaker, err-from-errBy}
 use Rattle.std.specs.declared.option.Option.the-variants.{None}
