@@ -6,21 +6,6 @@ use settlement::SetpointFaultDisplay;
 use settlement::Setpoints;
 use std::test::*;
 
-const ALL: [Setpoint; 12] = [
-    Setpoint::AccountNumber,
-    Setpoint::ContractedPower,
-    Setpoint::InstalledPower,
-    Setpoint::ZoneMode,
-    Setpoint::PurchaseBase,
-    Setpoint::FreeSalePrice,
-    Setpoint::SaleRule,
-    Setpoint::Distribution,
-    Setpoint::Transmission,
-    Setpoint::StorageMetered,
-    Setpoint::FirstMonth,
-    Setpoint::PayoutFloor,
-];
-
 // twelve numbers that are allowed; the installed power is the least, so that the contracted can be tried at its bounds
 const GOOD: [u32; 12] = [
     100245,
@@ -149,7 +134,7 @@ fn accepted_setpoints_read_back_as_typed() -> Result<(), Fail> {
         Ok(setpoints) => setpoints,
         Err(_) => return Err(Fail::new("refused")),
     };
-    for (setpoint, typed) in ALL.iter().zip(GOOD.iter()) {
+    for (setpoint, typed) in Setpoint::ALL.iter().zip(GOOD.iter()) {
         check_eq(setpoints.value(*setpoint), *typed)?;
     }
     Ok(())

@@ -8,8 +8,8 @@ use tariffs::ZoneMode;
 use tariffs::ZoneTariff;
 use tariffs::ZoneTariffSource;
 
-// the hours of a day by zone, as the supplier's offer prints them: from hour, to hour, coefficient in tenths
-const ZONES: [(u32, usize, usize, u32); 10] = [
+// mode, from hour, to hour, coefficient in tenths: every hour of a day in each mode
+const ZONES: [(u32, usize, usize, u32); 11] = [
     (1, 0, 24, 10),
     (2, 0, 7, 5),
     (2, 7, 23, 10),
@@ -20,6 +20,7 @@ const ZONES: [(u32, usize, usize, u32); 10] = [
     (3, 11, 20, 10),
     (3, 20, 22, 15),
     (3, 22, 23, 10),
+    (3, 23, 24, 4),
 ];
 
 #[test]

@@ -15,21 +15,6 @@ use std::io;
 use tariffs::ZoneTariff;
 use typed::Typed;
 
-const ALL: [Setpoint; 12] = [
-    Setpoint::AccountNumber,
-    Setpoint::ContractedPower,
-    Setpoint::InstalledPower,
-    Setpoint::ZoneMode,
-    Setpoint::PurchaseBase,
-    Setpoint::FreeSalePrice,
-    Setpoint::SaleRule,
-    Setpoint::Distribution,
-    Setpoint::Transmission,
-    Setpoint::StorageMetered,
-    Setpoint::FirstMonth,
-    Setpoint::PayoutFloor,
-];
-
 // The twelve numbers of standard input, or the line that stops them.
 fn typed_in(rt: &LibcRuntime) -> Result<[u32; 12], AnyError> {
     let mut typed = Typed::none();
@@ -54,7 +39,7 @@ fn typed_in(rt: &LibcRuntime) -> Result<[u32; 12], AnyError> {
 // The setpoints as they are held.
 fn show_setpoints(rt: &LibcRuntime, setpoints: &Setpoints) -> io::Result<()> {
     println!(rt, "Setpoints")?;
-    for setpoint in ALL {
+    for setpoint in Setpoint::ALL {
         rt.println(rows::setpoint_row(rt.alloc(), setpoint, setpoints.value(setpoint))?)?;
     }
     println!(rt, "  accepted")
@@ -63,7 +48,7 @@ fn show_setpoints(rt: &LibcRuntime, setpoints: &Setpoints) -> io::Result<()> {
 // The numbers as they were typed in, and why they are refused.
 fn show_refusal(rt: &LibcRuntime, numbers: [u32; 12], fault: SetpointFault) -> io::Result<()> {
     println!(rt, "Setpoints")?;
-    for (setpoint, value) in ALL.iter().zip(numbers.iter()) {
+    for (setpoint, value) in Setpoint::ALL.iter().zip(numbers.iter()) {
         rt.println(rows::setpoint_row(rt.alloc(), *setpoint, *value)?)?;
     }
     rt.println(rows::refusal_row(rt.alloc(), fault)?)

@@ -21,6 +21,22 @@ pub enum Setpoint {
 }
 
 impl Setpoint {
+    // In the order in which they are typed in.
+    pub const ALL: [Setpoint; 12] = [
+        Setpoint::AccountNumber,
+        Setpoint::ContractedPower,
+        Setpoint::InstalledPower,
+        Setpoint::ZoneMode,
+        Setpoint::PurchaseBase,
+        Setpoint::FreeSalePrice,
+        Setpoint::SaleRule,
+        Setpoint::Distribution,
+        Setpoint::Transmission,
+        Setpoint::StorageMetered,
+        Setpoint::FirstMonth,
+        Setpoint::PayoutFloor,
+    ];
+
     // 1 to 12.
     pub fn number(self) -> u32
         ensures answer { λ r. ⌜ r ≡ setpoint-number self ⌝ }
