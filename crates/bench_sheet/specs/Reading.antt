@@ -18,6 +18,7 @@ use Rattle.bench_sheet.specs.declared.fault.LineFault.{LineFault}
 use Rattle.bench_sheet.specs.declared.fault.LineFault.the-variants.{NotADigit, TooLarge, TooMany}
 use Rattle.bench_sheet.specs.declared.typed.Typed.{Typed}
 
+-- the numbers that were typed in so far
 abbrev pub entered : Typed → List ℕ
 entered t = take (t .count) (t .numbers)
 
@@ -30,6 +31,7 @@ uncommented (b ∷ bs) = cond (eqb b 35) [] (b ∷ uncommented bs)
 abbrev pub blank : ℕ → Bool
 blank b = eqb b 32 || (eqb b 9 || eqb b 13)
 
+-- 0 to 9
 abbrev pub digit : ℕ → Bool
 digit b = within 48 57 b
 
@@ -43,6 +45,7 @@ abbrev pub ended : List ℕ → Option ℕ → Result (List ℕ) LineFault
 ended ns None = Ok ns
 ended ns (Some n) = cond (ltb (length ns) 12) (Ok (ns ++ n ∷ [])) (Err TooMany)
 
+-- what goes on where nothing stopped it
 abbrev pub after : {X Y : Type 0} → Result X LineFault → (X → Result Y LineFault) → Result Y LineFault
 after (Ok x) go = go x
 after (Err fault) go = Err fault

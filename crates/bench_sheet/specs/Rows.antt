@@ -55,6 +55,7 @@ per-kwh points =
 abbrev pub clock-text : ℕ → List ℕ
 clock-text hour = decimal (hour / 10) ++ (decimal (hour % 10) ++ codes ":00")
 
+-- tenths with a decimal
 abbrev pub tenths-text : ℕ → List ℕ
 tenths-text n = decimal (n / 10) ++ (codes "." ++ decimal (n % 10))
 

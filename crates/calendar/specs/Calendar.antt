@@ -17,12 +17,15 @@ short month = eqb month 4 || (eqb month 6 || (eqb month 9 || eqb month 11))
 abbrev pub days : ℕ → ℕ → ℕ
 days year month = cond (eqb month 2) (cond (leap year) 29 28) (cond (short month) 30 31)
 
+-- n lies between two bounds, or is one of them
 abbrev pub within : ℕ → ℕ → ℕ → Bool
 within least most n = leb least n && leb n most
 
+-- a month of the account: year 2020 to 2099, month 1 to 12
 abbrev pub isMonth : ℕ → ℕ → Bool
 isMonth year month = within 2020 2099 year && within 1 12 month
 
+-- a day of such a month
 abbrev pub isDate : ℕ → ℕ → ℕ → Bool
 isDate year month day = isMonth year month && within 1 (days year month) day
 
@@ -30,10 +33,12 @@ isDate year month day = isMonth year month && within 1 (days year month) day
 unfoldable pub clock : (year month day : ℕ) → List ℕ
 clock year month day = counting 0 24
 
+-- n is an element of the list
 abbrev pub among : ℕ → List ℕ → Bool
 among n [] = false
 among n (x ∷ xs) = eqb n x || among n xs
 
+-- an hour of such a day: one that its clock has
 abbrev pub isHour : ℕ → ℕ → ℕ → ℕ → Bool
 isHour year month day hour = isDate year month day && among hour (clock year month day)
 

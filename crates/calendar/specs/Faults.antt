@@ -10,6 +10,7 @@ use Rattle.calendar.specs.declared.fault.CalendarFault.the-variants.{NoSuchMon
 abbrev pub bare : ℕ → Returned
 bare n = record { number = n; places = 0 ∷ 0 ∷ 0 ∷ 0 ∷ 0 ∷ [] }
 
+-- number and places of each refusal
 abbrev pub returned-calendar : CalendarFault → Returned
 returned-calendar NoSuchMonth = bare 4
 returned-calendar NotInMonth = bare 25

@@ -28,6 +28,7 @@ impl CalendarFault {
         }
     }
 
+    // The words for a person.
     fn words(self) -> &'static str
         ensures { λ r. ⌜ now r ≡ words-calendar self ⌝ }
     {

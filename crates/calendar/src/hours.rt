@@ -46,6 +46,7 @@ impl Month {
         Some(self.hour_at(index))
     }
 
+    // The hour at an index that is known to lie within the month.
     fn hour_at(self, index: usize) -> Stamp
         requires { ⌜ index < hour-count self ⌝ }
         ensures { λ s. ⌜ Placed self index s ⌝ }

@@ -9,6 +9,7 @@ use Rattle.settlement.specs.Names.{setpoint-number, name}
 use Rattle.settlement.specs.declared.fault.SetpointFault.{SetpointFault}
 use Rattle.settlement.specs.declared.fault.SetpointFault.the-variants.{NotAllowed, InstalledAboveContracted}
 
+-- number and places of each refusal: 1 names the setpoint
 abbrev pub returned-setpoint : SetpointFault → Returned
 returned-setpoint (NotAllowed s) = record { number = 1; places = setpoint-number s ∷ 0 ∷ 0 ∷ 0 ∷ 0 ∷ [] }
 returned-setpoint InstalledAboveContracted = bare 2

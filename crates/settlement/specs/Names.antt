@@ -5,6 +5,7 @@ use lib.Chars.{codes}
 use Rattle.settlement.specs.declared.setpoint.Setpoint.{Setpoint}
 use Rattle.settlement.specs.declared.setpoint.Setpoint.the-variants.{AccountNumber, ContractedPower, InstalledPower, ZoneMode, PurchaseBase, FreeSalePrice, SaleRule, Distribution, Transmission, StorageMetered, FirstMonth, PayoutFloor}
 
+-- the number by which a setpoint is typed in and named
 abbrev pub setpoint-number : Setpoint → ℕ
 setpoint-number AccountNumber = 1
 setpoint-number ContractedPower = 2
@@ -19,6 +20,7 @@ setpoint-number StorageMetered = 10
 setpoint-number FirstMonth = 11
 setpoint-number PayoutFloor = 12
 
+-- the name that a person reads
 abbrev pub name : Setpoint → List ℕ
 name AccountNumber = codes "account number"
 name ContractedPower = codes "contracted power"

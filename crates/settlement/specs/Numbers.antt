@@ -5,11 +5,13 @@ use Rattle.settlement.specs.declared.values.SaleRule.the-variants.{DayAhead, C
 use Rattle.settlement.specs.declared.values.StorageMetering.{StorageMetering}
 use Rattle.settlement.specs.declared.values.StorageMetering.the-variants.{Unmetered, Metered}
 
+-- the sale rule, as setpoint 7 writes it
 abbrev pub rule-number : SaleRule → ℕ
 rule-number DayAhead = 1
 rule-number CappedDayAhead = 2
 rule-number FreePrice = 3
 
+-- the storage flag, as setpoint 10 writes it
 abbrev pub storage-number : StorageMetering → ℕ
 storage-number Unmetered = 0
 storage-number Metered = 1

@@ -39,6 +39,7 @@ allowed StorageMetered n = within 0 1 n
 allowed FirstMonth n = isMonthNumber n
 allowed PayoutFloor n = within 1 1000000000 n
 
+-- the twelve, in their order
 abbrev pub all-setpoints : List Setpoint
 all-setpoints =
     AccountNumber ∷ ContractedPower ∷ InstalledPower ∷ ZoneMode ∷ PurchaseBase ∷ FreeSalePrice ∷ SaleRule ∷ Distribution ∷ Transmission
@@ -53,14 +54,16 @@ abbrev pub first-not-allowed : List ℕ → List Setpoint → Option Setpoint
 first-not-allowed numbers [] = None
 first-not-allowed numbers (s ∷ ss) = cond (allowed s (typed numbers s)) (first-not-allowed numbers ss) (Some s)
 
--- why twelve numbers are refused, if they are: the lowest setpoint that is not allowed, then the powers
+-- whether the powers are a reason to refuse: the installed power may not be above the contracted
 abbrev pub powers-refused : List ℕ → Option SetpointFault
 powers-refused numbers = cond (leb (typed numbers InstalledPower) (typed numbers ContractedPower)) None (Some InstalledAboveContracted)
 
+-- the reason, where a first setpoint that is not allowed was found, and where none was
 abbrev pub refused : List ℕ → Option Setpoint → Option SetpointFault
 refused numbers (Some s) = Some (NotAllowed s)
 refused numbers None = powers-refused numbers
 
+-- why twelve numbers are refused, if they are: the lowest setpoint that is not allowed, then the powers
 abbrev pub refusal : List ℕ → Option SetpointFault
 refusal numbers = refused numbers (first-not-allowed numbers all-setpoints)
 

@@ -57,6 +57,7 @@ impl Setpoint {
         }
     }
 
+    // The name that a person reads.
     fn name(self) -> &'static str
         ensures { λ r. ⌜ now r ≡ name-of self ⌝ }
     {

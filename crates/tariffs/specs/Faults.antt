@@ -7,6 +7,7 @@ use Rattle.calendar.specs.declared.returned.Returned.{Returned}
 use Rattle.tariffs.specs.declared.fault.TariffFault.{TariffFault}
 use Rattle.tariffs.specs.declared.fault.TariffFault.the-variants.{NotAllowed}
 
+-- number and places of each refusal
 abbrev pub returned-tariff : TariffFault → Returned
 returned-tariff NotAllowed = bare 12
 

@@ -15,7 +15,7 @@ use Rattle.tariffs.specs.declared.zone_tariff.ZoneTariff.{ZoneTariff}
 abbrev pub allowed : ℕ → ℕ → Bool
 allowed mode base = within 1 3 mode && isRate base
 
--- the tariff of that mode and base, or the refusal where they are not allowed
+-- the tariff of that mode and base, or the refusal where they are not allowed; no mode has another number, and no rate is higher
 abbrev pub Checked : ℕ → ℕ → Result ZoneTariff TariffFault → Type 0
 Checked mode base (Ok tariff) = (mode-number (tariff .mode) ≡ mode) × (tariff .base .«kopiykas_per_mwh» ≡ base)
 Checked mode base (Err fault) = (allowed mode base ≡ false) × (fault ≡ NotAllowed)

@@ -32,6 +32,7 @@ impl TariffFault {
         }
     }
 
+    // The words for a person.
     fn words(self) -> &'static str
         ensures { λ r. ⌜ now r ≡ words-tariff self ⌝ }
     {

@@ -1,3 +1,4 @@
+// Making a month, its days, its number, and the month after it.
 ghost use mathlib.Core.Bool.{true};
 ghost use mathlib.Core.Path.{_≡_};
 ghost use Rattle.std.specs.Slices.{found};

@@ -1,3 +1,4 @@
+// Making a stamp, and the month and date that it lies in.
 ghost use mathlib.Core.Path.{_≡_};
 ghost use Rattle.std.specs.Slices.{found};
 ghost use Rattle.std.specs.Vec.{made};
