@@ -1,9 +1,9 @@
 // The twelve setpoints at their bounds.
 use calendar::Returned;
-use settlement::Setpoint;
-use settlement::SetpointFault;
-use settlement::SetpointFaultDisplay;
-use settlement::Setpoints;
+use site::Setpoint;
+use site::SetpointFault;
+use site::SetpointFaultDisplay;
+use site::Setpoints;
 use std::test::*;
 
 // twelve numbers that are allowed; the installed power is the least, so that the contracted can be tried at its bounds

@@ -4,11 +4,11 @@ use Prim.Native.Nat.{ℕ, _/_, _%_}
 use lib.Chars.{codes}
 use Rattle.std.specs.Written.{decimal}
 use Rattle.calendar.specs.Panel.{panel}
-use Rattle.settlement.specs.Faults.{returned-setpoint, words-setpoint}
-use Rattle.settlement.specs.Names.{setpoint-number, name}
-use Rattle.settlement.specs.declared.fault.SetpointFault.{SetpointFault}
-use Rattle.settlement.specs.declared.setpoint.Setpoint.{Setpoint}
-use Rattle.settlement.specs.declared.setpoint.Setpoint.the-variants.{AccountNumber, ContractedPower, InstalledPower, ZoneMode, PurchaseBase, FreeSalePrice, SaleRule, Distribution, Transmission, StorageMetered, FirstMonth, PayoutFloor}
+use Rattle.site.specs.Faults.{returned-setpoint, words-setpoint}
+use Rattle.site.specs.Names.{setpoint-number, name}
+use Rattle.site.specs.declared.fault.SetpointFault.{SetpointFault}
+use Rattle.site.specs.declared.setpoint.Setpoint.{Setpoint}
+use Rattle.site.specs.declared.setpoint.Setpoint.the-variants.{AccountNumber, ContractedPower, InstalledPower, ZoneMode, PurchaseBase, FreeSalePrice, SaleRule, Distribution, Transmission, StorageMetered, FirstMonth, PayoutFloor}
 use Rattle.bench_sheet.specs.declared.fault.LineFault.{LineFault}
 use Rattle.bench_sheet.specs.declared.fault.LineFault.the-variants.{NotADigit, TooLarge, TooMany}
 use Rattle.bench_sheet.specs.Columns.{left, right}

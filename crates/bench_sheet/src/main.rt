@@ -7,9 +7,9 @@ mod typed;
 
 use calendar::Month;
 use figures::figures_that_hold;
-use settlement::Setpoint;
-use settlement::SetpointFault;
-use settlement::Setpoints;
+use site::Setpoint;
+use site::SetpointFault;
+use site::Setpoints;
 use std::error::AnyError;
 use std::io;
 use tariffs::ZoneTariff;

@@ -7,10 +7,10 @@ use crate::columns::left;
 use crate::columns::right;
 use crate::fault::LineFault;
 use calendar::ReturnedDisplay;
-use settlement::Setpoint;
-use settlement::SetpointDisplay;
-use settlement::SetpointFault;
-use settlement::SetpointFaultDisplay;
+use site::Setpoint;
+use site::SetpointDisplay;
+use site::SetpointFault;
+use site::SetpointFaultDisplay;
 use std::alloc::AllocError;
 use std::alloc::Global;
 

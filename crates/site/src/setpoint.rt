@@ -1,7 +1,7 @@
 // The twelve setpoints by name.
 ghost use mathlib.Core.Path.{_≡_};
 ghost use Rattle.std.specs.declared.option.Option.the-variants.{Some};
-ghost use Rattle.settlement.specs.Names.{name as name-of, setpoint-number};
+ghost use Rattle.site.specs.Names.{name as name-of, setpoint-number};
 use std::fmt;
 
 #[derive(Clone, Copy, Debug, PartialEq, Eq)]

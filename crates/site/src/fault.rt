@@ -1,7 +1,7 @@
 // Why twelve setpoints are refused.
 ghost use mathlib.Core.Path.{_≡_};
 ghost use Rattle.std.specs.declared.option.Option.the-variants.{Some};
-ghost use Rattle.settlement.specs.Faults.{returned-setpoint, words-setpoint};
+ghost use Rattle.site.specs.Faults.{returned-setpoint, words-setpoint};
 use crate::setpoint::Setpoint;
 use crate::setpoint::SetpointDebug;
 use crate::setpoint::SetpointDisplay;

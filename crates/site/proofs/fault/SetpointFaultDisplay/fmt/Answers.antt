@@ -1,4 +1,4 @@
-use Rattle.settlement.proofs.fault.SetpointFaultDisplay.fmt.Needs as need
+use Rattle.site.proofs.fault.SetpointFaultDisplay.fmt.Needs as need
 
 pub returns-in-NotAllowed : need.returns-in-NotAllowed
 returns-in-NotAllowed g c = rw (c .in-NotAllowed .is, ← c .number-number .ensures .answer) (c .write .ensures .shows)

@@ -1,9 +1,9 @@
 -- The numbers by which the setpoints write a sale rule and the storage flag. Assumes nothing.
 use Prim.Native.Nat.{ℕ}
-use Rattle.settlement.specs.declared.values.SaleRule.{SaleRule}
-use Rattle.settlement.specs.declared.values.SaleRule.the-variants.{DayAhead, CappedDayAhead, FreePrice}
-use Rattle.settlement.specs.declared.values.StorageMetering.{StorageMetering}
-use Rattle.settlement.specs.declared.values.StorageMetering.the-variants.{Unmetered, Metered}
+use Rattle.site.specs.declared.values.SaleRule.{SaleRule}
+use Rattle.site.specs.declared.values.SaleRule.the-variants.{DayAhead, CappedDayAhead, FreePrice}
+use Rattle.site.specs.declared.values.StorageMetering.{StorageMetering}
+use Rattle.site.specs.declared.values.StorageMetering.the-variants.{Unmetered, Metered}
 
 -- the sale rule, as setpoint 7 writes it
 abbrev pub rule-number : SaleRule → ℕ

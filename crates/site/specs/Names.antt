@@ -2,8 +2,8 @@
 use mathlib.Core.List.{List}
 use Prim.Native.Nat.{ℕ}
 use lib.Chars.{codes}
-use Rattle.settlement.specs.declared.setpoint.Setpoint.{Setpoint}
-use Rattle.settlement.specs.declared.setpoint.Setpoint.the-variants.{AccountNumber, ContractedPower, InstalledPower, ZoneMode, PurchaseBase, FreeSalePrice, SaleRule, Distribution, Transmission, StorageMetered, FirstMonth, PayoutFloor}
+use Rattle.site.specs.declared.setpoint.Setpoint.{Setpoint}
+use Rattle.site.specs.declared.setpoint.Setpoint.the-variants.{AccountNumber, ContractedPower, InstalledPower, ZoneMode, PurchaseBase, FreeSalePrice, SaleRule, Distribution, Transmission, StorageMetered, FirstMonth, PayoutFloor}
 
 -- the number by which a setpoint is typed in and named
 abbrev pub setpoint-number : Setpoint → ℕ

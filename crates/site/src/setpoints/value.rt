@@ -1,6 +1,6 @@
 // Checked setpoints read back as numbers.
 ghost use mathlib.Core.Path.{_≡_};
-ghost use Rattle.settlement.specs.Setpoints.{held};
+ghost use Rattle.site.specs.Setpoints.{held};
 use super::Setpoints;
 use crate::setpoint::Setpoint;
 

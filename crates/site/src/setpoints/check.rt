@@ -2,9 +2,9 @@
 ghost use Rattle.calendar.specs.Calendar.{number as month-number, within};
 ghost use Rattle.tariffs.specs.Rates.{isRate};
 ghost use Rattle.tariffs.specs.Zones.{mode-number};
-ghost use Rattle.settlement.specs.Numbers.{rule-number, storage-number};
-ghost use Rattle.settlement.specs.Setpoints.{Checked, Reads, isMonthNumber};
-ghost use Rattle.settlement.specs.declared.setpoint.Setpoint.the-variants.{ZoneMode as Zones, SaleRule as Rule, StorageMetered, FirstMonth};
+ghost use Rattle.site.specs.Numbers.{rule-number, storage-number};
+ghost use Rattle.site.specs.Setpoints.{Checked, Reads, isMonthNumber};
+ghost use Rattle.site.specs.declared.setpoint.Setpoint.the-variants.{ZoneMode as Zones, SaleRule as Rule, StorageMetered, FirstMonth};
 use super::Setpoints;
 use crate::fault::SetpointFault;
 use crate::setpoint::Setpoint;

@@ -5,9 +5,9 @@ use lib.Chars.{codes}
 use Rattle.std.specs.Written.{decimal}
 use Rattle.calendar.specs.Faults.{bare}
 use Rattle.calendar.specs.declared.returned.Returned.{Returned}
-use Rattle.settlement.specs.Names.{setpoint-number, name}
-use Rattle.settlement.specs.declared.fault.SetpointFault.{SetpointFault}
-use Rattle.settlement.specs.declared.fault.SetpointFault.the-variants.{NotAllowed, InstalledAboveContracted}
+use Rattle.site.specs.Names.{setpoint-number, name}
+use Rattle.site.specs.declared.fault.SetpointFault.{SetpointFault}
+use Rattle.site.specs.declared.fault.SetpointFault.the-variants.{NotAllowed, InstalledAboveContracted}
 
 -- number and places of each refusal: 1 names the setpoint
 abbrev pub returned-setpoint : SetpointFault → Returned

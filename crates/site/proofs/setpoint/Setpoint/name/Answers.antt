@@ -1,6 +1,6 @@
 use mathlib.Core.Path.{ap, sym}
-use Rattle.settlement.specs.Names.{name}
-use Rattle.settlement.proofs.setpoint.Setpoint.name.Needs as need
+use Rattle.site.specs.Names.{name}
+use Rattle.site.proofs.setpoint.Setpoint.name.Needs as need
 
 pub returns-in-AccountNumber : need.returns-in-AccountNumber
 returns-in-AccountNumber c = sym (ap name (c .in-AccountNumber .is))

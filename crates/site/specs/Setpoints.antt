@@ -12,13 +12,13 @@ use Rattle.std.specs.declared.result.Result.the-variants.{Ok, Err}
 use Rattle.calendar.specs.Calendar.{within, number}
 use Rattle.tariffs.specs.Rates.{isRate}
 use Rattle.tariffs.specs.Zones.{mode-number}
-use Rattle.settlement.specs.Names.{setpoint-number}
-use Rattle.settlement.specs.Numbers.{rule-number, storage-number}
-use Rattle.settlement.specs.declared.fault.SetpointFault.{SetpointFault}
-use Rattle.settlement.specs.declared.fault.SetpointFault.the-variants.{NotAllowed, InstalledAboveContracted}
-use Rattle.settlement.specs.declared.setpoint.Setpoint.{Setpoint}
-use Rattle.settlement.specs.declared.setpoint.Setpoint.the-variants.{AccountNumber, ContractedPower, InstalledPower, ZoneMode, PurchaseBase, FreeSalePrice, SaleRule, Distribution, Transmission, StorageMetered, FirstMonth, PayoutFloor}
-use Rattle.settlement.specs.declared.setpoints.Setpoints.{Setpoints}
+use Rattle.site.specs.Names.{setpoint-number}
+use Rattle.site.specs.Numbers.{rule-number, storage-number}
+use Rattle.site.specs.declared.fault.SetpointFault.{SetpointFault}
+use Rattle.site.specs.declared.fault.SetpointFault.the-variants.{NotAllowed, InstalledAboveContracted}
+use Rattle.site.specs.declared.setpoint.Setpoint.{Setpoint}
+use Rattle.site.specs.declared.setpoint.Setpoint.the-variants.{AccountNumber, ContractedPower, InstalledPower, ZoneMode, PurchaseBase, FreeSalePrice, SaleRule, Distribution, Transmission, StorageMetered, FirstMonth, PayoutFloor}
+use Rattle.site.specs.declared.setpoints.Setpoints.{Setpoints}
 
 -- year × 100 + month, of a month of the account
 abbrev pub isMonthNumber : ℕ → Bool
