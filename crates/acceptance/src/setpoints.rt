@@ -134,7 +134,7 @@ fn accepted_setpoints_read_back_as_typed() -> Result<(), Fail> {
         Ok(setpoints) => setpoints,
         Err(_) => return Err(Fail::new("refused")),
     };
-    for (setpoint, typed) in Setpoint::ALL.iter().zip(GOOD.iter()) {
+    for (setpoint, typed) in Setpoint::all().iter().zip(GOOD.iter()) {
         check_eq(setpoints.value(*setpoint), *typed)?;
     }
     Ok(())

@@ -27,7 +27,7 @@ abbrev pub uncommented : List ℕ → List ℕ
 uncommented [] = []
 uncommented (b ∷ bs) = cond (eqb b 35) [] (b ∷ uncommented bs)
 
--- a space, a tab, or the carriage return before a line's end
+-- a space, a tab or a carriage return
 abbrev pub blank : ℕ → Bool
 blank b = eqb b 32 || (eqb b 9 || eqb b 13)
 

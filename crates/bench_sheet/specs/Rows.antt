@@ -5,7 +5,7 @@ use lib.Chars.{codes}
 use Rattle.std.specs.Written.{decimal}
 use Rattle.calendar.specs.Panel.{panel}
 use Rattle.site.specs.Faults.{returned-setpoint, words-setpoint}
-use Rattle.site.specs.Names.{setpoint-number, name}
+use Rattle.site.specs.Setpoint.{setpoint-number, name}
 use Rattle.site.specs.declared.fault.SetpointFault.{SetpointFault}
 use Rattle.site.specs.declared.setpoint.Setpoint.{Setpoint}
 use Rattle.site.specs.declared.setpoint.Setpoint.the-variants.{AccountNumber, ContractedPower, InstalledPower, ZoneMode, PurchaseBase, FreeSalePrice, SaleRule, Distribution, Transmission, StorageMetered, FirstMonth, PayoutFloor}
@@ -52,8 +52,8 @@ per-kwh points =
     decimal (points / 10000) ++ (codes "." ++ (decimal (points / 1000 % 10) ++ (decimal (points / 100 % 10) ++ (decimal (points / 10 % 10) ++ decimal (points % 10)))))
 
 -- the start of an hour, as a clock shows it
-abbrev pub clock-text : ℕ → List ℕ
-clock-text hour = decimal (hour / 10) ++ (decimal (hour % 10) ++ codes ":00")
+abbrev pub hour-start : ℕ → List ℕ
+hour-start hour = decimal (hour / 10) ++ (decimal (hour % 10) ++ codes ":00")
 
 -- tenths with a decimal
 abbrev pub tenths-text : ℕ → List ℕ
@@ -61,4 +61,4 @@ tenths-text n = decimal (n / 10) ++ (codes "." ++ decimal (n % 10))
 
 -- the hour's start, the coefficient, the price in kopiykas per kWh and in points
 abbrev pub zone-row : ℕ → ℕ → ℕ → List ℕ
-zone-row hour tenths points = codes "  " ++ (clock-text hour ++ (right 14 (tenths-text tenths) ++ (right 18 (per-kwh points) ++ right 13 (decimal points))))
+zone-row hour tenths points = codes "  " ++ (hour-start hour ++ (right 14 (tenths-text tenths) ++ (right 18 (per-kwh points) ++ right 13 (decimal points))))

@@ -1,4 +1,4 @@
-// Why a line cannot be read. Columns are counted from 1.
+// Why a line cannot be read: malformed text, and no refusal of the account. Columns are counted from 1.
 #[derive(Clone, Copy, Debug, PartialEq, Eq)]
 pub enum LineFault {
     NotADigit(usize),

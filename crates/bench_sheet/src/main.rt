@@ -39,16 +39,16 @@ fn typed_in(rt: &LibcRuntime) -> Result<[u32; 12], AnyError> {
 // The setpoints as they are held.
 fn show_setpoints(rt: &LibcRuntime, setpoints: &Setpoints) -> io::Result<()> {
     println!(rt, "Setpoints")?;
-    for setpoint in Setpoint::ALL {
+    for setpoint in Setpoint::all() {
         rt.println(rows::setpoint_row(rt.alloc(), setpoint, setpoints.value(setpoint))?)?;
     }
-    println!(rt, "  accepted")
+    println!(rt, "accepted")
 }
 
 // The numbers as they were typed in, and why they are refused.
 fn show_refusal(rt: &LibcRuntime, numbers: [u32; 12], fault: SetpointFault) -> io::Result<()> {
     println!(rt, "Setpoints")?;
-    for (setpoint, value) in Setpoint::ALL.iter().zip(numbers.iter()) {
+    for (setpoint, value) in Setpoint::all().iter().zip(numbers.iter()) {
         rt.println(rows::setpoint_row(rt.alloc(), *setpoint, *value)?)?;
     }
     rt.println(rows::refusal_row(rt.alloc(), fault)?)
@@ -70,7 +70,7 @@ fn step(
     Ok(())
 }
 
-// The zone clock over 07:00 and over 23:00, on the first day of the first month.
+// The zone clock over 07:00 and over 23:00, from the first day of the first month on.
 fn show_zone_clock(rt: &LibcRuntime, setpoints: &Setpoints) -> io::Result<()> {
     let tariff = ZoneTariff {
         mode: setpoints.zone_mode,

@@ -2,7 +2,7 @@
 ghost use mathlib.Core.Path.{_≡_};
 ghost use Rattle.std.specs.Of.String.{string-bytes};
 ghost use Rattle.std.specs.Vec.{made};
-ghost use Rattle.bench_sheet.specs.Rows.{clock-text, count-row, line-row, per-kwh, refusal-row, setpoint-row, tenths-text, unit as unit-of, zone-row};
+ghost use Rattle.bench_sheet.specs.Rows.{hour-start, count-row, line-row, per-kwh, refusal-row, setpoint-row, tenths-text, unit as unit-of, zone-row};
 use crate::columns::left;
 use crate::columns::right;
 use crate::fault::LineFault;
@@ -93,8 +93,8 @@ fn kopiykas_per_kwh(heap: Global, points: u32) -> Result<String, AllocError>
 }
 
 // The start of an hour.
-fn clock(heap: Global, hour: u8) -> Result<String, AllocError>
-    ensures { λ r. ⌜ made r (λ t. string-bytes t ≡ clock-text hour) ⌝ }
+fn hour_start(heap: Global, hour: u8) -> Result<String, AllocError>
+    ensures { λ r. ⌜ made r (λ t. string-bytes t ≡ hour-start hour) ⌝ }
 {
     let tens = hour / 10;
     let ones = hour % 10;
@@ -114,7 +114,7 @@ fn decimal_of(heap: Global, tenths: u32) -> Result<String, AllocError>
 pub fn zone_row(heap: Global, hour: u8, tenths: u32, points: u32) -> Result<String, AllocError>
     ensures { λ r. ⌜ made r (λ t. string-bytes t ≡ zone-row hour tenths points) ⌝ }
 {
-    let hour = clock(heap, hour)?;
+    let hour = hour_start(heap, hour)?;
     let coefficient = decimal_of(heap, tenths)?;
     let coefficient = right(heap, 14, coefficient.as_str())?;
     let price = kopiykas_per_kwh(heap, points)?;

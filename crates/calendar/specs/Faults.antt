@@ -1,4 +1,4 @@
--- A refusal as the panel shows it, and the calendar's refusals. Assumes nothing.
+-- The calendar's refusals: number, places and words. Assumes nothing.
 use mathlib.Core.List.{List, [], _∷_}
 use Prim.Native.Nat.{ℕ}
 use lib.Chars.{codes}

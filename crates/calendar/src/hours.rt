@@ -1,4 +1,4 @@
-// The hours of a day and of a month, in their order. Nothing else in the account knows how many there are.
+// The hours of a day and of a month, in their order. All that counts or places hours goes through here.
 ghost use mathlib.Core.Path.{_≡_};
 ghost use Prim.Native.Nat.{_+_, _*_, _^_, _<_, _≤_};
 ghost use Rattle.std.specs.Options.{Cases};
@@ -21,7 +21,7 @@ impl Date {
 }
 
 impl Month {
-    // How many days of all their hours the month has.
+    // The month's days, each of which has all 24 hours.
     fn full_days(self) -> u8
         ensures { λ r. ⌜ r * 24 ≡ hour-count self ⌝ }
     {

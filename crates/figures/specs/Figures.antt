@@ -3,8 +3,8 @@ use mathlib.Core.List.{List, [], _∷_}
 use mathlib.Core.Path.{_≡_}
 use Prim.Native.Nat.{ℕ}
 use Rattle.tariffs.specs.Zones.{coefficient}
-use Rattle.tariffs.specs.declared.mode.ZoneMode.{ZoneMode}
-use Rattle.tariffs.specs.declared.mode.ZoneMode.the-variants.{ThreeZone}
+use Rattle.tariffs.specs.declared.zones.ZoneMode.{ZoneMode}
+use Rattle.tariffs.specs.declared.zones.ZoneMode.the-variants.{ThreeZone}
 
 pub data Figure : Type 0 where
   -- a zone mode, an hour, and the coefficient there in tenths

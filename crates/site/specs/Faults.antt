@@ -5,7 +5,7 @@ use lib.Chars.{codes}
 use Rattle.std.specs.Written.{decimal}
 use Rattle.calendar.specs.Faults.{bare}
 use Rattle.calendar.specs.declared.returned.Returned.{Returned}
-use Rattle.site.specs.Names.{setpoint-number, name}
+use Rattle.site.specs.Setpoint.{setpoint-number, name}
 use Rattle.site.specs.declared.fault.SetpointFault.{SetpointFault}
 use Rattle.site.specs.declared.fault.SetpointFault.the-variants.{NotAllowed, InstalledAboveContracted}
 

@@ -1,4 +1,4 @@
 pub mod Faults
-pub mod Names
-pub mod Numbers
+pub mod Setpoint
 pub mod Setpoints
+pub mod Values

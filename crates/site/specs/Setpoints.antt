@@ -10,10 +10,10 @@ use Rattle.std.specs.declared.option.Option.the-variants.{Some, None}
 use Rattle.std.specs.declared.result.Result.{Result}
 use Rattle.std.specs.declared.result.Result.the-variants.{Ok, Err}
 use Rattle.calendar.specs.Calendar.{within, number}
-use Rattle.tariffs.specs.Rates.{isRate}
+use Rattle.tariffs.specs.Rate.{isRate}
 use Rattle.tariffs.specs.Zones.{mode-number}
-use Rattle.site.specs.Names.{setpoint-number}
-use Rattle.site.specs.Numbers.{rule-number, storage-number}
+use Rattle.site.specs.Setpoint.{all-setpoints, setpoint-number}
+use Rattle.site.specs.Values.{rule-number, storage-number}
 use Rattle.site.specs.declared.fault.SetpointFault.{SetpointFault}
 use Rattle.site.specs.declared.fault.SetpointFault.the-variants.{NotAllowed, InstalledAboveContracted}
 use Rattle.site.specs.declared.setpoint.Setpoint.{Setpoint}
@@ -38,12 +38,6 @@ allowed Transmission n = isRate n
 allowed StorageMetered n = within 0 1 n
 allowed FirstMonth n = isMonthNumber n
 allowed PayoutFloor n = within 1 1000000000 n
-
--- the twelve, in their order
-abbrev pub all-setpoints : List Setpoint
-all-setpoints =
-    AccountNumber ∷ ContractedPower ∷ InstalledPower ∷ ZoneMode ∷ PurchaseBase ∷ FreeSalePrice ∷ SaleRule ∷ Distribution ∷ Transmission
-    ∷ StorageMetered ∷ FirstMonth ∷ PayoutFloor ∷ []
 
 -- the value that was typed in for a setpoint, the first number being setpoint 1
 abbrev pub typed : List ℕ → Setpoint → ℕ

@@ -1,7 +1,7 @@
 // The twelve setpoints by name.
 ghost use mathlib.Core.Path.{_≡_};
 ghost use Rattle.std.specs.declared.option.Option.the-variants.{Some};
-ghost use Rattle.site.specs.Names.{name as name-of, setpoint-number};
+ghost use Rattle.site.specs.Setpoint.{all-setpoints, name as name-of, setpoint-number};
 use std::fmt;
 
 #[derive(Clone, Copy, Debug, PartialEq, Eq)]
@@ -21,21 +21,25 @@ pub enum Setpoint {
 }
 
 impl Setpoint {
-    // In the order in which they are typed in.
-    pub const ALL: [Setpoint; 12] = [
-        Setpoint::AccountNumber,
-        Setpoint::ContractedPower,
-        Setpoint::InstalledPower,
-        Setpoint::ZoneMode,
-        Setpoint::PurchaseBase,
-        Setpoint::FreeSalePrice,
-        Setpoint::SaleRule,
-        Setpoint::Distribution,
-        Setpoint::Transmission,
-        Setpoint::StorageMetered,
-        Setpoint::FirstMonth,
-        Setpoint::PayoutFloor,
-    ];
+    // The twelve, in the order in which they are typed in.
+    pub fn all() -> [Setpoint; 12]
+        ensures answer { λ r. ⌜ r ≡ all-setpoints ⌝ }
+    {
+        [
+            Setpoint::AccountNumber,
+            Setpoint::ContractedPower,
+            Setpoint::InstalledPower,
+            Setpoint::ZoneMode,
+            Setpoint::PurchaseBase,
+            Setpoint::FreeSalePrice,
+            Setpoint::SaleRule,
+            Setpoint::Distribution,
+            Setpoint::Transmission,
+            Setpoint::StorageMetered,
+            Setpoint::FirstMonth,
+            Setpoint::PayoutFloor,
+        ]
+    }
 
     // 1 to 12.
     pub fn number(self) -> u32

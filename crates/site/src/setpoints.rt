@@ -28,6 +28,7 @@ pub struct Setpoints {
     pub first_month: Month,
     pub payout_floor: Kopiykas,
     ghost numbered: { (1 ≤ account .0) × (account .0 ≤ 999999999) },
+    // at least 1, since the installed power is, and is not above it
     ghost contracted: { «contracted_power» .0 ≤ 1000000 },
     ghost installed: { (1 ≤ «installed_power» .0) × («installed_power» .0 ≤ 30000) },
     ghost covered: { «installed_power» .0 ≤ «contracted_power» .0 },

@@ -1,6 +1,6 @@
 // What the setpoints hold.
 ghost use mathlib.Core.Path.{_≡_};
-ghost use Rattle.site.specs.Numbers.{rule-number, storage-number};
+ghost use Rattle.site.specs.Values.{rule-number, storage-number};
 
 // The account's number with the supplier.
 #[derive(Clone, Copy, Debug, PartialEq, Eq)]

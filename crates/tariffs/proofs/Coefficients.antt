@@ -9,8 +9,8 @@ use native.Mathlib.Omega.{arith}
 use Rattle.std.proofs.shelf.Tests.{cond-true, cond-false, lt-ltb, le-ltb}
 use Rattle.std.proofs.shelf.Ways.{decides-below-and, decides-eqb, tells}
 use Rattle.tariffs.specs.Zones.{coefficient, row}
-use Rattle.tariffs.specs.declared.mode.ZoneMode.{ZoneMode}
-use Rattle.tariffs.specs.declared.mode.ZoneMode.the-variants.{SingleZone, TwoZone, ThreeZone}
+use Rattle.tariffs.specs.declared.zones.ZoneMode.{ZoneMode}
+use Rattle.tariffs.specs.declared.zones.ZoneMode.the-variants.{SingleZone, TwoZone, ThreeZone}
 
 -- the table as the code has it
 abbrev pub table : List ℕ

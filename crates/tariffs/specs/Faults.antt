@@ -5,12 +5,12 @@ use lib.Chars.{codes}
 use Rattle.calendar.specs.Faults.{bare}
 use Rattle.calendar.specs.declared.returned.Returned.{Returned}
 use Rattle.tariffs.specs.declared.fault.TariffFault.{TariffFault}
-use Rattle.tariffs.specs.declared.fault.TariffFault.the-variants.{NotAllowed}
+use Rattle.tariffs.specs.declared.fault.TariffFault.the-variants.{NoSuchTariff}
 
 -- number and places of each refusal
 abbrev pub returned-tariff : TariffFault → Returned
-returned-tariff NotAllowed = bare 12
+returned-tariff NoSuchTariff = bare 12
 
 -- the words for a person
 abbrev pub words-tariff : TariffFault → List ℕ
-words-tariff NotAllowed = codes "the zone mode is not 1 to 3, or the base price is above 10000000 kopiykas per MWh"
+words-tariff NoSuchTariff = codes "the zone mode is not 1 to 3, or the base price is above 10000000 kopiykas per MWh"

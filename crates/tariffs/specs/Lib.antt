@@ -1,5 +1,5 @@
-pub mod Prices
-pub mod Zones
 pub mod Faults
-pub mod Rates
-pub mod Tariff
+pub mod Rate
+pub mod Source
+pub mod ZoneTariff
+pub mod Zones

@@ -4,8 +4,8 @@ use Prim.Native.Nat.{ℕ}
 use lib.Dec.{eqb, leb}
 use Rattle.calendar.specs.Calendar.{within}
 use Rattle.calendar.specs.declared.stamp.Stamp.{Stamp}
-use Rattle.tariffs.specs.declared.mode.ZoneMode.{ZoneMode}
-use Rattle.tariffs.specs.declared.mode.ZoneMode.the-variants.{SingleZone, TwoZone, ThreeZone}
+use Rattle.tariffs.specs.declared.zones.ZoneMode.{ZoneMode}
+use Rattle.tariffs.specs.declared.zones.ZoneMode.the-variants.{SingleZone, TwoZone, ThreeZone}
 
 -- the number of a mode, as setpoint 4 writes it
 abbrev pub mode-number : ZoneMode → ℕ

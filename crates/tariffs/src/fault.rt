@@ -15,7 +15,7 @@ pub struct SourceFault {
 #[derive(Clone, Copy, Debug, PartialEq, Eq)]
 pub enum TariffFault {
     // the zone mode is not 1 to 3, or the base price above 10,000,000
-    NotAllowed,
+    NoSuchTariff,
 }
 
 impl TariffFault {
@@ -24,7 +24,7 @@ impl TariffFault {
         ensures answer { λ r. ⌜ r ≡ returned-tariff self ⌝ }
     {
         let number = match self {
-            TariffFault::NotAllowed => 12,
+            TariffFault::NoSuchTariff => 12,
         };
         Returned {
             number,
@@ -37,7 +37,7 @@ impl TariffFault {
         ensures { λ r. ⌜ now r ≡ words-tariff self ⌝ }
     {
         match self {
-            TariffFault::NotAllowed =>
+            TariffFault::NoSuchTariff =>
                 "the zone mode is not 1 to 3, or the base price is above 10000000 kopiykas per MWh",
         }
     }

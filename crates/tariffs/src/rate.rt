@@ -3,7 +3,7 @@ ghost use mathlib.Core.Bool.{false};
 ghost use mathlib.Core.Path.{_≡_};
 ghost use Prim.Native.Nat.{_*_, _≤_};
 ghost use Rattle.std.specs.Options.{Cases};
-ghost use Rattle.tariffs.specs.Rates.{isRate};
+ghost use Rattle.tariffs.specs.Rate.{isRate};
 
 #[derive(Clone, Copy, Debug, PartialEq, Eq)]
 pub struct Rate {

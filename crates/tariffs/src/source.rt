@@ -1,7 +1,7 @@
 // What is asked of every make of price source.
 ghost use mathlib.Core.Path.{_≡_};
 ghost use Rattle.calendar.specs.declared.stamp.Stamp.{Stamp};
-ghost use Rattle.tariffs.specs.Prices.{Meaning, Sound};
+ghost use Rattle.tariffs.specs.Source.{Meaning, Sound};
 use crate::fault::SourceFault;
 use calendar::Stamp;
 

@@ -1,11 +1,10 @@
 // A tariff by zones: the base price, weighted by the hour.
-ghost use Rattle.tariffs.specs.Prices.{zoned};
-ghost use Rattle.tariffs.specs.Tariff.{Checked};
+ghost use Rattle.tariffs.specs.ZoneTariff.{Checked, zoned};
 use crate::fault::SourceFault;
 use crate::fault::TariffFault;
-use crate::mode::ZoneMode;
 use crate::rate::Rate;
 use crate::source::PriceSource;
+use crate::zones::ZoneMode;
 use calendar::Stamp;
 
 #[derive(Clone, Copy)]
@@ -20,10 +19,10 @@ impl ZoneTariff {
         ensures answer { λ r. ⌜ Checked mode base r ⌝ }
     {
         let Some(mode) = ZoneMode::from_number(mode) else {
-            return Err(TariffFault::NotAllowed);
+            return Err(TariffFault::NoSuchTariff);
         };
         let Some(base) = Rate::new(base) else {
-            return Err(TariffFault::NotAllowed);
+            return Err(TariffFault::NoSuchTariff);
         };
         Ok(ZoneTariff { mode, base })
     }

@@ -1,8 +1,8 @@
 // Twelve numbers become setpoints, or are refused for the first reason that applies.
 ghost use Rattle.calendar.specs.Calendar.{number as month-number, within};
-ghost use Rattle.tariffs.specs.Rates.{isRate};
+ghost use Rattle.tariffs.specs.Rate.{isRate};
 ghost use Rattle.tariffs.specs.Zones.{mode-number};
-ghost use Rattle.site.specs.Numbers.{rule-number, storage-number};
+ghost use Rattle.site.specs.Values.{rule-number, storage-number};
 ghost use Rattle.site.specs.Setpoints.{Checked, Reads, isMonthNumber};
 ghost use Rattle.site.specs.declared.setpoint.Setpoint.the-variants.{ZoneMode as Zones, SaleRule as Rule, StorageMetered, FirstMonth};
 use super::Setpoints;

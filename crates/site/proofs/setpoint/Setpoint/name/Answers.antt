@@ -1,5 +1,5 @@
 use mathlib.Core.Path.{ap, sym}
-use Rattle.site.specs.Names.{name}
+use Rattle.site.specs.Setpoint.{name}
 use Rattle.site.proofs.setpoint.Setpoint.name.Needs as need
 
 pub returns-in-AccountNumber : need.returns-in-AccountNumber

@@ -1,11 +1,9 @@
 -- What a price source means, and which meanings are sound. Assumes nothing.
-use Prim.Native.Nat.{ℕ, _*_, _≤_}
+use Prim.Native.Nat.{ℕ, _≤_}
 use Rattle.std.specs.declared.result.Result.{Result}
 use Rattle.std.specs.declared.result.Result.the-variants.{Ok, Err}
 use Rattle.calendar.specs.declared.stamp.Stamp.{Stamp}
-use Rattle.tariffs.specs.Zones.{coefficient, zone-hour}
 use Rattle.tariffs.specs.declared.fault.SourceFault.{SourceFault}
-use Rattle.tariffs.specs.declared.mode.ZoneMode.{ZoneMode}
 
 -- a price in points, or a fault, at every stamp
 abbrev pub Meaning : Type 0
@@ -15,7 +13,3 @@ Meaning = Stamp → Result ℕ SourceFault
 abbrev pub Sound : Result ℕ SourceFault → Type 0
 Sound (Ok price) = price ≤ 150000000
 Sound (Err fault) = (1 ≤ fault .cause) × (fault .cause ≤ 255) × (fault .depth ≤ 15)
-
--- a zone tariff: the base price in kopiykas per MWh, times the coefficient in tenths, is the price in points
-abbrev pub zoned : ZoneMode → ℕ → Meaning
-zoned mode base at = Ok (base * coefficient mode (zone-hour at))

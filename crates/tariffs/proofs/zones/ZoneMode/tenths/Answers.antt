@@ -4,7 +4,7 @@ use lib.ListN.{getD}
 use native.Mathlib.Omega.{arith}
 use Rattle.tariffs.specs.Zones.{coefficient}
 use Rattle.tariffs.proofs.Coefficients.{table, at-row, at-most}
-use Rattle.tariffs.proofs.mode.ZoneMode.tenths.Needs as need
+use Rattle.tariffs.proofs.zones.ZoneMode.tenths.Needs as need
 
 pub returns : need.returns
 returns c =

@@ -1,5 +1,5 @@
--- The twelve setpoints: their numbers and names. Assumes nothing.
-use mathlib.Core.List.{List}
+-- The twelve setpoints: their numbers, names and order. Assumes nothing.
+use mathlib.Core.List.{List, [], _∷_}
 use Prim.Native.Nat.{ℕ}
 use lib.Chars.{codes}
 use Rattle.site.specs.declared.setpoint.Setpoint.{Setpoint}
@@ -34,3 +34,9 @@ name Transmission = codes "transmission tariff"
 name StorageMetered = codes "storage metered"
 name FirstMonth = codes "first month"
 name PayoutFloor = codes "payout floor"
+
+-- the twelve, in their order
+abbrev pub all-setpoints : List Setpoint
+all-setpoints =
+    AccountNumber ∷ ContractedPower ∷ InstalledPower ∷ ZoneMode ∷ PurchaseBase ∷ FreeSalePrice ∷ SaleRule ∷ Distribution ∷ Transmission
+    ∷ StorageMetered ∷ FirstMonth ∷ PayoutFloor ∷ []

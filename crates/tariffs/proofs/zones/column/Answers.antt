@@ -1,6 +1,6 @@
 use Rattle.calendar.proofs.Clock.{hour-below}
 use borrow.Author.Needs.{needs}
-use Rattle.tariffs.proofs.mode.column.Needs as need
+use Rattle.tariffs.proofs.zones.column.Needs as need
 
 pub returns : need.returns
 returns c =
