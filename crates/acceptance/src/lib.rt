@@ -1,4 +1,6 @@
 // Tests of the library from a caller's side: tables of what is asked and what has to come, a file a layer.
+#![tactic(auto)]
+
 #[cfg(test)]
 mod months_and_hours;
 #[cfg(test)]

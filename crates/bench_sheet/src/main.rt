@@ -1,4 +1,6 @@
 // The commissioning sheet: twelve setpoints from standard input are checked, and the zone clock is stepped.
+#![tactic(auto)]
+
 mod clock;
 mod columns;
 mod day_ahead;

@@ -1,5 +1,7 @@
 // The calendar of the account: months from 2020 to 2099, their days, and their hours in order.
 // And the form in which every layer hands a refusal to the panel.
+#![tactic(auto)]
+
 mod date;
 mod fault;
 mod hours;

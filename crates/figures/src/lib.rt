@@ -1,4 +1,6 @@
 // The figures of the commissioning bench, and that each is what the account's definitions give.
+#![tactic(auto)]
+
 ghost use Rattle.std.specs.Prelude.{◌≡◌, length};
 ghost use Rattle.std.specs.List.{AllByRecursion as All};
 ghost use Rattle.figures.specs.Figures.{Holds, figures as figures_of_the_bench};

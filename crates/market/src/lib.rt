@@ -1,4 +1,6 @@
 // The day-ahead market: a month's list of prices, checked once, and the table that answers from it.
+#![tactic(auto)]
+
 mod fault;
 mod price_list;
 mod table;

@@ -1,4 +1,6 @@
 // Makes of price source from outside the library: what a new make looks like, and what it has to show.
+#![tactic(auto)]
+
 mod cached;
 mod constant;
 mod questions;

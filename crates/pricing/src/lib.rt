@@ -1,4 +1,6 @@
 // Which source prices what: the sale by its rule, and the standard choice for a site.
+#![tactic(auto)]
+
 mod choice;
 mod sale;
 

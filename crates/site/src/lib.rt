@@ -1,4 +1,6 @@
 // The site whose account is kept: its twelve setpoints, checked at once.
+#![tactic(auto)]
+
 mod fault;
 mod setpoint;
 mod setpoints;

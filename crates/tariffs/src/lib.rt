@@ -1,4 +1,6 @@
 // What energy costs at an hour: the zones of the day, the zone tariff, the trait of price sources, and the lower of two.
+#![tactic(auto)]
+
 mod fault;
 mod lower_of;
 mod rate;
