@@ -1,7 +1,6 @@
 -- A stamp is found at its place in a list of hours, and nowhere before it. Assumes nothing.
-use Rattle.std.proofs.Common.{◌≡◌, ℕ, zero, suc, true, false, eqb, List, [], ◌∷◌, Some, sym, refl, ap, ◌∙◌, subst, ⊎_elim, arith}
+use Rattle.std.proofs.Common.{◌≡◌, ℕ, zero, suc, Bool, true, false, eqb, List, [], ◌∷◌, Some, sym, refl, ap, ◌∙◌, subst, ⊎_elim, arith}
 use Rattle.std.proofs.iter.runs.Lists.{none-some, same_Some}
-use Rattle.std.proofs.lemmas.Map.{Hit}
 use Rattle.std.proofs.lemmas.Bool.{and_from, and_parts, eq-eqb, eqb-true, cases_Bool}
 use Rattle.std.specs.List.{slice_get}
 use Rattle.calendar.specs.Hours.{same_hour, stamp, hours, Placed}
@@ -26,6 +25,12 @@ same_self : (s : Stamp) → same_hour s s ≡ true
 same_self s =
     and_from _ _ (eq-eqb s.year s.year refl)
     (and_from _ _ (eq-eqb s.month s.month refl) (and_from _ _ (eq-eqb s.day s.day refl) (eq-eqb s.hour s.hour refl)))
+
+-- a key is found at an index of a list: the one there passes, and none before it
+abbrev pub Hit : {K : Type 0} → (K → K → Bool) → K → List K → ℕ → Type 0
+Hit test k [] i = ⊥
+Hit test k (x ∷ xs) zero = test k x ≡ true
+Hit test k (x ∷ xs) (suc i) = (test k x ≡ false) × Hit test k xs i
 
 hit : (s : Stamp) (hs : List Stamp) (i : ℕ) → slice_get hs i ≡ Some s → ((j : ℕ) → slice_get hs j ≡ Some s → j ≡ i) → Hit same_hour s hs i
 hit s [] i here only = none-some s here

@@ -14,7 +14,7 @@ loop-at-preserved g c =
     let first = vec_items c.args.answers.now in
     let before = vec_items c.loop-at.answers in
     let told = c.price.ensures.answer ∙ c.loop-at.invariant.1 at in (
-      c.in-ok-push.ensures.items ∙ ap (λ x. before ++ x ∷ []) told
+      c.in_ok-push.ensures.items ∙ ap (λ x. before ++ x ∷ []) told
           ∙ ap (λ xs. xs ++ meant at ∷ []) c.loop-at.invariant.0
           ∙ append_assoc first (map meant (take i asked)) (meant at ∷ [])
           ∙ ap (λ s. first ++ (map meant (take i asked) ++ meant s ∷ [])) c.at-item.is

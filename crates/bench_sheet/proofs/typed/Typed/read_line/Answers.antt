@@ -8,20 +8,20 @@ use Rattle.bench_sheet.proofs.typed.Typed.read_line.Goals as goal
 pub loop-i-init : goal.loop-i-init
 loop-i-init c = refl
 
-pub returns-in-err-scan : goal.returns-in-err-scan
-returns-in-err-scan c =
+pub returns-in_err-scan : goal.returns-in_err-scan
+returns-in_err-scan c =
     let items = c.before-comment-byte-items.result.now in
     let i = c.loop-i.i in
     let next = at_drop_more (from_there c.loop-i.scan (i + 1)) items i 0 c.loop-i-test.true in
-    let stopped = ap (reading (entered c.args.self) None 1) (sym c.before-comment-byte-items.ensures) ∙ sym c.loop-i.invariant ∙ next ∙ c.in-err-scan.ensures (drop (i + 1) items) in
-    let p = err_from_is_err_and c.from-residual.result c.from-residual.ensures.1 in record { answer = rw (p.1, p.2) stopped }
+    let stopped = ap (reading (entered c.args.self) None 1) (sym c.before-comment-byte-items.ensures) ∙ sym c.loop-i.invariant ∙ next ∙ c.in_err-scan.ensures (drop (i + 1) items) in
+    let p = err_from_is_err_and c.from_residual.result c.from_residual.ensures.1 in record { answer = rw (p.1, p.2) stopped }
 
 pub loop-i-preserved : goal.loop-i-preserved
 loop-i-preserved c =
     let items = c.before-comment-byte-items.result.now in
     let i = c.loop-i.i in
     let next = at_drop_more (from_there c.loop-i.scan (i + 1)) items i 0 c.loop-i-test.true in
-    sym (c.in-ok-scan.ensures (drop (i + 1) items)) ∙ sym next ∙ c.loop-i.invariant
+    sym (c.in_ok-scan.ensures (drop (i + 1) items)) ∙ sym next ∙ c.loop-i.invariant
 
 pub returns : goal.returns
 returns c =

@@ -4,4 +4,4 @@ pub returns-in-NotAllowed-clause-writes : goal.returns-in-NotAllowed-clause-writ
 returns-in-NotAllowed-clause-writes g c = rw (c.in-NotAllowed.is, ← c.number-number.ensures.answer) c.write.ensures.writes
 
 pub returns-in-InstalledAboveContracted-clause-writes : goal.returns-in-InstalledAboveContracted-clause-writes
-returns-in-InstalledAboveContracted-clause-writes g c = rw c.in-InstalledAboveContracted.is c.write-str.ensures.writes
+returns-in-InstalledAboveContracted-clause-writes g c = rw c.in-InstalledAboveContracted.is c.write_str.ensures.writes
