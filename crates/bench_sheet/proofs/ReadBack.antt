@@ -3,7 +3,7 @@ use Rattle.std.proofs.Common.{◌≡◌, ℕ, ◌+◌, ◌-◌, ◌/◌, ◌%◌
 use Rattle.std.proofs.lemmas.Fmt.{decimal_by_steps}
 use Rattle.std.proofs.lemmas.Bool.{cond-true, cond-false, lt-ltb, ne_eqb}
 use Rattle.std.proofs.lemmas.Bool.Decides.{nat_tests}
-use Rattle.std.specs.List.{AllByRecursion as All}
+use Rattle.std.specs.List.{AllByRecursion}
 use Rattle.bench_sheet.specs.Reading.{after, digit, grown, reading, uncommented, written, ReadsBack}
 
 is_digit : (d : ℕ) → d < 10 → digit (48 + d) ≡ true
@@ -39,7 +39,7 @@ number_read ms column n rest small room =
     ∙ digits_read n small small ms column (32 ∷ rest)
     ∙ ap (λ r. after r (λ ks. reading ks None (column + length (decimal n) + 1) rest)) (cond-true _ _ _ (lt-ltb (length ms) 12 room))
 
-all_read : (ns ms : List ℕ) (column : ℕ) → All (λ n. n < 2 ^ 32) ns → length ms + length ns ≤ 12 → reading ms None column (written ns) ≡ Ok (ms ++ ns)
+all_read : (ns ms : List ℕ) (column : ℕ) → AllByRecursion (λ n. n < 2 ^ 32) ns → length ms + length ns ≤ 12 → reading ms None column (written ns) ≡ Ok (ms ++ ns)
 all_read [] ms column small room = ap (λ xs. Ok xs) (sym (append-nil ms))
 all_read (n ∷ ns) ms column small room =
     let more : length (ms ++ n ∷ []) ≡ length ms + 1 = length-append ms (n ∷ []) in
@@ -63,7 +63,7 @@ digits_plain n small =
     ∙ sym (append_assoc ds (c ∷ []) (uncommented rest)))
     n (omega arith)
 
-written_plain : (ns : List ℕ) → All (λ n. n < 2 ^ 32) ns → uncommented (written ns) ≡ written ns
+written_plain : (ns : List ℕ) → AllByRecursion (λ n. n < 2 ^ 32) ns → uncommented (written ns) ≡ written ns
 written_plain [] small = refl
 written_plain (n ∷ ns) small =
     ap uncommented (append_assoc (decimal n) (32 ∷ []) (written ns))

@@ -1,6 +1,6 @@
 -- The numbers of a line of text. Assumes nothing.
 use Rattle.std.specs.Prelude.{◌≡◌, ℕ, ◌+◌, ◌-◌, ◌*◌, ◌^◌, ◌<◌, ◌≤◌, Bool, cond, ◌||◌, List, [], ◌∷◌, ◌++◌, length, take, Some, None, Ok, Err, decimal, Option, Result, MatchResult, ◌==◌, nat_lt}
-use Rattle.std.specs.List.{flat_map, AllByRecursion as All}
+use Rattle.std.specs.List.{flat_map, AllByRecursion}
 use Rattle.calendar.specs.Calendar.{within}
 use Rattle.bench_sheet.specs.declared.fault.LineFault.{LineFault}
 use Rattle.bench_sheet.specs.declared.fault.LineFault.TheVariants.{NotADigit, TooLarge, TooMany}
@@ -55,4 +55,4 @@ written ns = flat_map (λ n. decimal n ++ 32 ∷ []) ns
 
 -- what is written so is read as it was meant: no digit is lost, and no number falls together with the next
 abbrev pub ReadsBack : Type 0
-ReadsBack = (ns : List ℕ) → All (λ n. n < 2 ^ 32) ns → length ns ≤ 12 → reading [] None 1 (uncommented (written ns)) ≡ Ok ns
+ReadsBack = (ns : List ℕ) → AllByRecursion (λ n. n < 2 ^ 32) ns → length ns ≤ 12 → reading [] None 1 (uncommented (written ns)) ≡ Ok ns

@@ -2,12 +2,12 @@
 #![tactic(auto)]
 
 ghost use Rattle.std.specs.Prelude.{◌≡◌, length};
-ghost use Rattle.std.specs.List.{AllByRecursion as All};
+ghost use Rattle.std.specs.List.{AllByRecursion};
 ghost use Rattle.figures.specs.Figures.{Holds, figures as figures_of_the_bench};
 
 // How many figures there are. Its contract is the statement that each of them holds.
 pub fn figures_that_hold() -> usize
-    ensures hold { All Holds figures_of_the_bench }
+    ensures hold { AllByRecursion Holds figures_of_the_bench }
     ensures answer { result ≡ length figures_of_the_bench }
 {
     9

@@ -3,6 +3,7 @@ use Rattle.std.proofs.Common.{◌≡◌, ℕ, ◌<◌, true, eqb, List, length, 
 use Rattle.std.proofs.iter.runs.Lists.{slice_get_within}
 use Rattle.std.proofs.lemmas.Option.{slice_get-get_or}
 use Rattle.std.proofs.lemmas.Bool.{cases_Bool, cond-true, cond-false, and_from, and_parts, eq-eqb, eqb-true, or_cases}
+use Rattle.std.specs.List.{zip}
 use Rattle.std.specs.Map.{lookup}
 use Rattle.calendar.specs.Hours.{Placed, first_month, hour_count, hours, its_month, month, named_month, same_hour}
 use Rattle.calendar.specs.declared.month.Month.{Month}
@@ -66,7 +67,7 @@ module _ (year number : ℕ) (prices : List ℕ) (p : Passed (named_month year n
 
   at_place : (at : Stamp) (i : ℕ) → Placed (month year number) i at → tabled year number prices at ≡ priced (Some (get_or prices i 0))
   at_place at i placed =
-      cond-true _ _ _ (inside at placed.inside) ∙ ap (λ m. priced (lookup same_hour (hours m) prices at)) placed.inside
+      cond-true _ _ _ (inside at placed.inside) ∙ ap (λ m. priced (lookup (same_hour at) (zip (hours m) prices))) placed.inside
       ∙ ap priced (listed_at (month year number) i at prices placed ∙ slice_get-get_or prices i 0 (within_list at i placed))
 
   may_stand : (at : Stamp) (i : ℕ) → Placed (month year number) i at → listable (get_or prices i 0) ≡ true

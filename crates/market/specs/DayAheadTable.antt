@@ -1,5 +1,6 @@
 -- What a day-ahead table means. Assumes nothing.
 use Rattle.std.specs.Prelude.{◌≡◌, ℕ, Bool, cond, ◌&&◌, List, Some, None, Ok, Err, Option, Result, ◌==◌, ◌≢◌, slice_index}
+use Rattle.std.specs.List.{zip}
 use Rattle.std.specs.Map.{lookup}
 use Rattle.calendar.specs.Hours.{Placed, hours, its_month, same_hour}
 use Rattle.calendar.specs.declared.month.Month.{Month}
@@ -28,7 +29,7 @@ lies_in year month at = at.year == year && at.month == month
 
 -- the table of a year, a month and a list: at an hour of that month, the price beside it in the list
 abbrev pub tabled : ℕ → ℕ → List ℕ → Meaning
-tabled year month prices at = cond (lies_in year month at) (priced (lookup same_hour (hours (its_month at)) prices at)) (Err outside_month)
+tabled year month prices at = cond (lies_in year month at) (priced (lookup (same_hour at) (zip (hours (its_month at)) prices))) (Err outside_month)
 
 -- what a checked list says of every stamp
 abbrev pub list_means : CheckedPrices → Meaning

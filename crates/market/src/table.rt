@@ -2,6 +2,7 @@
 ghost use Rattle.std.specs.Prelude.{◌≡◌, Err};
 ghost use Rattle.calendar.specs.Hours.{Placed, hours, its_month, same_hour};
 ghost use Rattle.calendar.specs.declared.stamp.Stamp.{Stamp};
+ghost use Rattle.std.specs.List.{zip};
 ghost use Rattle.std.specs.Map.{lookup};
 ghost use Rattle.market.specs.DayAheadTable.{list_means, outside_month, table_means};
 
@@ -53,7 +54,7 @@ impl DayAheadTable<'_> {
 // The number that is listed for an hour, which stands at an index of its month.
 fn listed(prices: &[u32], at: Stamp, index: usize) -> Option<u32>
     requires { Placed (its_month at) index at }
-    ensures { result ≡ lookup same_hour (hours (its_month at)) prices.now at }
+    ensures { result ≡ lookup (same_hour at) (zip (hours (its_month at)) prices.now) }
 {
     prices.get(index).copied()
 }

@@ -12,8 +12,8 @@ pub fn ask_each<P: PriceSource>(
     source: &mut P,
     questions: &[Stamp],
 ) -> Result<Vec<Result<u32, SourceFault>>, AllocError>
-    ensures law { IfOk result (λ answers. answers.items ≡ map (means source.old) questions.now) }
-    ensures kept { (s : Stamp) → means source.new s ≡ means source.old s }
+    ensures law { IfOk result (λ answers. answers.items ≡ map (P.PriceSource.means source.old) questions.now) }
+    ensures kept { (s : Stamp) → P.PriceSource.means source.new s ≡ P.PriceSource.means source.old s }
 {
     let mut answers = Vec::new(heap);
     append(source, questions, &mut answers)?;
@@ -26,8 +26,8 @@ fn append<P: PriceSource>(
     questions: &[Stamp],
     answers: &mut Vec<Result<u32, SourceFault>>,
 ) -> Result<(), AllocError>
-    ensures law { OnOk result (answers.new.items ≡ answers.old.items ++ map (means source.old) questions.now) }
-    ensures kept { (s : Stamp) → means source.new s ≡ means source.old s }
+    ensures law { OnOk result (answers.new.items ≡ answers.old.items ++ map (P.PriceSource.means source.old) questions.now) }
+    ensures kept { (s : Stamp) → P.PriceSource.means source.new s ≡ P.PriceSource.means source.old s }
 {
     for at in questions {
         answers.push(source.price(*at))?;
