@@ -16,6 +16,7 @@ use market::{DayAheadTable, PriceList};
 use pricing::StandardChoice;
 use site::{Setpoint, SetpointFault, Setpoints};
 use std::io;
+use std::process::ExitCode;
 use tariffs::{PriceSource, ZoneTariff};
 use typed::Typed;
 
@@ -31,12 +32,12 @@ fn typed_in(rt: &HostRuntime) -> anyhow::Result<[u32; 12]> {
         };
         typed = match typed.read_line(line.as_bytes()) {
             Ok(more) => more,
-            Err(fault) => return Err(rows::line_row(rt.alloc(), number, fault)?.into()),
+            Err(fault) => return Err(anyhow!(rows::line_row(rt.alloc(), number, fault)?)),
         };
     }
     match typed.twelve() {
         Some(numbers) => Ok(numbers),
-        None => Err(rows::count_row(rt.alloc(), number, typed.count())?.into()),
+        None => Err(anyhow!(rows::count_row(rt.alloc(), number, typed.count())?)),
     }
 }
 
@@ -184,12 +185,12 @@ fn run(rt: &HostRuntime) -> anyhow::Result<()> {
     Ok(())
 }
 
-fn main(rt: HostRuntime) -> anyhow::Result<()> {
-    let played = run(&rt);
-    if let Err(error) = &played {
+fn main(rt: HostRuntime) -> io::Result<ExitCode> {
+    if let Err(error) = run(&rt) {
         eprintln!(rt; "bench_sheet: {error}")?;
+        return Ok(ExitCode::FAILURE);
     }
-    played
+    Ok(ExitCode::SUCCESS)
 }
 
 #[cfg(test)]

@@ -9,7 +9,7 @@ pub loop-index-preserved : goal.loop-index-preserved
 loop-index-preserved c =
     let at = c.in-Some.at in
     let before = vec_items c.loop-index.prices in
-    c.in_ok-push.ensures.items ∙ ap (λ p. before ++ p ∷ []) c.at-hour.ensures
+    c.in_ok-push.ensures.items ∙ ap (λ p. before ++ p ∷ []) c.at_hour.ensures
     ∙ next_hour (price_of c.args.day.now) c.args.month c.loop-index.index at before c.in-Some.ensures.answer c.loop-index.invariant
 
 pub returns : goal.returns

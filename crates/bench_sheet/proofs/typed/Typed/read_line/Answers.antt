@@ -10,23 +10,23 @@ loop-i-init c = refl
 
 pub returns-in_err-scan : goal.returns-in_err-scan
 returns-in_err-scan c =
-    let items = c.before-comment-byte-items.result.now in
+    let items = c.before_comment-byte-items.result.now in
     let i = c.loop-i.i in
     let next = at_drop_more (from_there c.loop-i.scan (i + 1)) items i 0 c.loop-i-test.true in
-    let stopped = ap (reading (entered c.args.self) None 1) (sym c.before-comment-byte-items.ensures) ∙ sym c.loop-i.invariant ∙ next ∙ c.in_err-scan.ensures (drop (i + 1) items) in
+    let stopped = ap (reading (entered c.args.self) None 1) (sym c.before_comment-byte-items.ensures) ∙ sym c.loop-i.invariant ∙ next ∙ c.in_err-scan.ensures (drop (i + 1) items) in
     let p = err_from_is_err_and c.from_residual.result c.from_residual.ensures.1 in record { answer = rw (p.1, p.2) stopped }
 
 pub loop-i-preserved : goal.loop-i-preserved
 loop-i-preserved c =
-    let items = c.before-comment-byte-items.result.now in
+    let items = c.before_comment-byte-items.result.now in
     let i = c.loop-i.i in
     let next = at_drop_more (from_there c.loop-i.scan (i + 1)) items i 0 c.loop-i-test.true in
     sym (c.in_ok-scan.ensures (drop (i + 1) items)) ∙ sym next ∙ c.loop-i.invariant
 
 pub returns : goal.returns
 returns c =
-    let items = c.before-comment-byte-items.result.now in
+    let items = c.before_comment-byte-items.result.now in
     let all : reading (entered c.args.self) None 1 (uncommented c.args.line.now) ≡ ended (entered c.loop-i.scan.typed) c.loop-i.scan.begun =
-    ap (reading (entered c.args.self) None 1) (sym c.before-comment-byte-items.ensures) ∙ sym c.loop-i.invariant
+    ap (reading (entered c.args.self) None 1) (sym c.before_comment-byte-items.ensures) ∙ sym c.loop-i.invariant
     ∙ at_drop_all (from_there c.loop-i.scan (c.loop-i.i + 1)) items c.loop-i.i c.loop-i-test.false in
     record { answer = MatchResult-weaker c.ended.result c.ended.ensures (λ t h. all ∙ h) (λ e h. all ∙ h) }
