@@ -1,6 +1,9 @@
 // Lines of a sheet, and what is read of them.
 use crate::fault::LineFault;
 use crate::typed::Typed;
+use crate::{day_ahead, roles, show_prices};
+use market::PriceList;
+use site::Setpoints;
 use std::test::Fail;
 
 // How many numbers a line has, or why it cannot be read.
@@ -83,4 +86,63 @@ fn a_sheet_of_several_lines_reads_as_typed(rt: HostRuntime) -> Result<(), Fail> 
         },
         None => Err(Fail::new("not twelve")),
     }
+}
+
+// The setpoints of the committed sheet.
+const SHEET: [u32; 12] = [
+    100245, 50000, 30000, 3, 432000, 300000, 2, 150000, 40000, 1, 202601, 10000,
+];
+
+// An index of the first month, and the line of its hour.
+const ROLES: [(usize, &str); 6] = [
+    (
+        6,
+        "  06:00     172.8000     210.0000     172.8000     300.0000     172.8000",
+    ),
+    (
+        7,
+        "  07:00     432.0000     490.0000     432.0000     300.0000     432.0000",
+    ),
+    (
+        8,
+        "  08:00     648.0000     560.0000     560.0000     300.0000     560.0000",
+    ),
+    (
+        22,
+        "  22:00     432.0000     480.0000     432.0000     300.0000     432.0000",
+    ),
+    (
+        23,
+        "  23:00     172.8000     260.0000     172.8000     300.0000     172.8000",
+    ),
+    (
+        24,
+        "  00:00     172.8000     145.0000     145.0000     300.0000     145.0000",
+    ),
+];
+
+#[test]
+fn prices_by_role(rt: HostRuntime) -> Result<(), Fail> {
+    let Ok(setpoints) = Setpoints::check(SHEET) else {
+        return Err(Fail::new("refused"));
+    };
+    let month = setpoints.first_month;
+    let prices = day_ahead::held(rt.alloc(), month, &day_ahead::DAY)?;
+    let list = PriceList {
+        year: month.year,
+        month: month.month,
+        prices: prices.as_slice(),
+    };
+    let Ok(checked) = list.check() else {
+        return Err(Fail::new("no such list"));
+    };
+    for (index, line) in ROLES {
+        let Some(at) = month.stamp_at(index) else {
+            return Err(Fail::new("no such hour"));
+        };
+        let row = roles::priced(rt.alloc(), &setpoints, checked.table(), at)?;
+        assert!(rt; row.as_str() == line);
+    }
+    show_prices(&rt, &setpoints)?;
+    Ok(())
 }

@@ -1,6 +1,5 @@
 // Numbers are read off a line of text: digits, with blanks between; a # starts a comment.
-ghost use Rattle.std.specs.Prelude.{◌≡◌, ◌+◌, ◌<◌, ◌≤◌, [], length, None, Ok, Err, MatchResult};
-ghost use Rattle.std.specs.Option as Options;
+ghost use Rattle.std.specs.Prelude.{◌≡◌, ◌+◌, ◌<◌, ◌≤◌, [], length, None, Ok, Err, MatchOption, MatchResult};
 ghost use Rattle.bench_sheet.specs.Scanning.{Steps};
 ghost use Rattle.bench_sheet.specs.Reading.{ended as ended_by, entered, grown as grown_by, uncommented, Reads, ReadsBack};
 
@@ -118,7 +117,7 @@ impl Typed {
 
     // All twelve, where there are twelve.
     pub fn twelve(self) -> Option<[u32; 12]>
-        ensures answer { Options.MatchOption result (length (entered self) < 12) (λ ns. ns ≡ entered self) }
+        ensures answer { MatchOption result (length (entered self) < 12) (λ ns. ns ≡ entered self) }
     {
         if self.count < 12 {
             return None;
