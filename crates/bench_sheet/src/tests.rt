@@ -1,10 +1,12 @@
 // Lines of a sheet, and what is read of them.
 use crate::fault::LineFault;
 use crate::typed::Typed;
-use crate::{day_ahead, roles, show_prices};
+use crate::{day_ahead, roles, rows, show_prices};
+use calendar::Month;
 use market::PriceList;
 use site::Setpoints;
 use std::test::Fail;
+use tariffs::SourceFault;
 
 // How many numbers a line has, or why it cannot be read.
 fn count(line: &str) -> Result<usize, LineFault> {
@@ -144,5 +146,42 @@ fn prices_by_role(rt: HostRuntime) -> Result<(), Fail> {
         assert!(rt; row.as_str() == line);
     }
     show_prices(&rt, &setpoints)?;
+    Ok(())
+}
+
+// What is asked, of an hour of a month of 2026, and the line of the answer.
+const UNPRICED: [(&str, u8, usize, SourceFault, &str); 3] = [
+    (
+        "outside the table's month",
+        2,
+        0,
+        SourceFault { cause: 1, depth: 0 },
+        "  outside the table's month       2026-02-01 00:00  cause 1, depth 0",
+    ),
+    (
+        "a missing price",
+        1,
+        12,
+        SourceFault { cause: 2, depth: 0 },
+        "  a missing price                 2026-01-01 12:00  cause 2, depth 0",
+    ),
+    (
+        "the same, through a lower-of",
+        1,
+        12,
+        SourceFault { cause: 2, depth: 1 },
+        "  the same, through a lower-of    2026-01-01 12:00  cause 2, depth 1",
+    ),
+];
+
+#[test]
+fn hours_with_no_price(rt: HostRuntime) -> Result<(), Fail> {
+    for (what, month, index, fault, line) in UNPRICED {
+        let Some(at) = Month::new(2026, month)?.stamp_at(index) else {
+            return Err(Fail::new("no such hour"));
+        };
+        let row = rows::asked_row(rt.alloc(), what, at, Err(fault))?;
+        assert!(rt; row.as_str() == line);
+    }
     Ok(())
 }
