@@ -2,11 +2,12 @@
 use crate::fault::LineFault;
 use crate::typed::Typed;
 use crate::{day_ahead, roles, rows, show_prices};
-use calendar::Month;
+use calendar::Stamp;
 use market::PriceList;
+use pricing::StandardChoice;
 use site::Setpoints;
 use std::test::Fail;
-use tariffs::SourceFault;
+use tariffs::PriceSource;
 
 // How many numbers a line has, or why it cannot be read.
 fn count(line: &str) -> Result<usize, LineFault> {
@@ -123,8 +124,24 @@ const ROLES: [(usize, &str); 6] = [
     ),
 ];
 
+// What is asked, and the line with the answer.
+const UNPRICED: [(&str, &str); 3] = [
+    (
+        "outside the table's month",
+        "  outside the table's month       2026-02-01 00:00  cause 1, depth 0",
+    ),
+    (
+        "a missing price",
+        "  a missing price                 2026-01-01 12:00  cause 2, depth 0",
+    ),
+    (
+        "the same, through a lower-of",
+        "  the same, through a lower-of    2026-01-01 12:00  cause 2, depth 1",
+    ),
+];
+
 #[test]
-fn prices_by_role(rt: HostRuntime) -> Result<(), Fail> {
+fn prices_by_role_and_hours_with_no_price(rt: HostRuntime) -> Result<(), Fail> {
     let Ok(setpoints) = Setpoints::check(SHEET) else {
         return Err(Fail::new("refused"));
     };
@@ -145,43 +162,18 @@ fn prices_by_role(rt: HostRuntime) -> Result<(), Fail> {
         let row = roles::priced(rt.alloc(), &setpoints, checked.table(), at)?;
         assert!(rt; row.as_str() == line);
     }
+    // the three questions with no price go to the table, and to the lower-of for excess energy
+    let mut table = checked.table();
+    let mut choice = StandardChoice::new(&setpoints, table);
+    let [outside, missing, deeper] = UNPRICED;
+    let after = Stamp::new(2026, 2, 1, 0)?;
+    let noon = Stamp::new(2026, 1, 1, 12)?;
+    let row = rows::asked_row(rt.alloc(), outside.0, after, table.price(after))?;
+    assert!(rt; row.as_str() == outside.1);
+    let row = rows::asked_row(rt.alloc(), missing.0, noon, table.price(noon))?;
+    assert!(rt; row.as_str() == missing.1);
+    let row = rows::asked_row(rt.alloc(), deeper.0, noon, choice.excess.price(noon))?;
+    assert!(rt; row.as_str() == deeper.1);
     show_prices(&rt, &setpoints)?;
-    Ok(())
-}
-
-// What is asked, of an hour of a month of 2026, and the line of the answer.
-const UNPRICED: [(&str, u8, usize, SourceFault, &str); 3] = [
-    (
-        "outside the table's month",
-        2,
-        0,
-        SourceFault { cause: 1, depth: 0 },
-        "  outside the table's month       2026-02-01 00:00  cause 1, depth 0",
-    ),
-    (
-        "a missing price",
-        1,
-        12,
-        SourceFault { cause: 2, depth: 0 },
-        "  a missing price                 2026-01-01 12:00  cause 2, depth 0",
-    ),
-    (
-        "the same, through a lower-of",
-        1,
-        12,
-        SourceFault { cause: 2, depth: 1 },
-        "  the same, through a lower-of    2026-01-01 12:00  cause 2, depth 1",
-    ),
-];
-
-#[test]
-fn hours_with_no_price(rt: HostRuntime) -> Result<(), Fail> {
-    for (what, month, index, fault, line) in UNPRICED {
-        let Some(at) = Month::new(2026, month)?.stamp_at(index) else {
-            return Err(Fail::new("no such hour"));
-        };
-        let row = rows::asked_row(rt.alloc(), what, at, Err(fault))?;
-        assert!(rt; row.as_str() == line);
-    }
     Ok(())
 }
