@@ -28,8 +28,7 @@ pub too_high_at : (hs : List Stamp) (ps : List ℕ) (i : ℕ) (s : Option Stamp)
 too_high_at hs ps i s same some here = let e : place ps ≡ i = grind (arith, common_steps) in at_place hs ps same ∙ ap (slice_get hs) e ∙ here
 
 pub all_listable : (hs : List Stamp) (ps : List ℕ) → length ps ≡ length hs → first_too_high hs ps ≡ None → AllPass listable ps
-all_listable [] [] same none k d l = absurd (omega arith)
-all_listable [] (p ∷ ps) same none k d l = absurd (omega arith)
+all_listable [] ps same none k d l = absurd (omega arith)
 all_listable (h ∷ hs) [] same none k d l = absurd (omega arith)
 all_listable (h ∷ hs) (p ∷ ps) same none zero d l =
     ⊎_elim (λ t. t) (λ f. absurd (none-some h (sym none ∙ cond-false _ _ _ f))) (cases_Bool (listable p))

@@ -2,6 +2,7 @@
 ghost use Rattle.std.specs.Prelude.{◌≡◌, ◌↔◌, Err, IsSomeAnd, IsTrue};
 ghost use Rattle.calendar.specs.Hours.{its_month};
 ghost use Rattle.calendar.specs.declared.stamp.Stamp.{Stamp};
+ghost use Rattle.tariffs.specs.Source.{Sound};
 ghost use Rattle.market.specs.DayAheadTable.{list_means, outside_month, table_means};
 
 use crate::price_list::{CheckedPrices, MISSING_PRICE};
@@ -35,6 +36,21 @@ impl<'a> CheckedPrices<'a> {
     {
         at.month() == self.month
     }
+
+    // What the list says of an hour.
+    fn price(self, at: Stamp) -> Result<u32, SourceFault>
+        ensures answer { result ≡ list_means self.entry at }
+        ensures sound { Sound result }
+    {
+        if !self.covers(at) {
+            return Err(OUTSIDE);
+        }
+        let price = self.prices[at.index()];
+        if price == MISSING_PRICE {
+            return Err(MISSING);
+        }
+        Ok(price)
+    }
 }
 
 impl DayAheadTable<'_> {
@@ -50,16 +66,9 @@ impl PriceSource for DayAheadTable<'_> {
     ghost means = { table_means };
 
     fn price(&mut self, at: Stamp) -> Result<u32, SourceFault> {
-        let Some(list) = self.list else {
-            return Err(OUTSIDE);
-        };
-        if !list.covers(at) {
-            return Err(OUTSIDE);
+        match self.list {
+            Some(list) => list.price(at),
+            None => Err(OUTSIDE),
         }
-        let price = list.prices[at.index()];
-        if price == MISSING_PRICE {
-            return Err(MISSING);
-        }
-        Ok(price)
     }
 }
