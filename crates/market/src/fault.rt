@@ -31,11 +31,8 @@ impl From<PriceListFault> for Returned {
 
     fn from(fault: PriceListFault) -> Returned {
         match fault {
-            PriceListFault::Calendar(fault) => fault.returned(),
-            PriceListFault::WrongLength => Returned {
-                number: 10,
-                places: [0, 0, 0, 0, 0],
-            },
+            PriceListFault::Calendar(fault) => Returned::from(fault),
+            PriceListFault::WrongLength => Returned::bare(10),
             PriceListFault::TooHigh { day, hour } => Returned {
                 number: 11,
                 places: [u32::from(day), u32::from(hour), 0, 0, 0],
