@@ -1,7 +1,7 @@
 // Piles of sources, of the library's makes and of others.
 use crate::{Cached, Constant, Questions, Recorder, ask_each};
 use calendar::Stamp;
-use market::{MISSING_PRICE, PriceList};
+use market::PriceList;
 use std::test::Fail;
 use tariffs::{LowerOf, PriceSource, SourceFault, ZoneTariff};
 
@@ -132,7 +132,8 @@ const QUESTIONS: [(u8, u8, Answer, bool); 7] = [
 #[test]
 fn a_cache_and_recorders_through_a_lower_of(rt: HostRuntime) -> Result<(), Fail> {
     let mut prices = [5_000_000u32; 744];
-    prices[24] = MISSING_PRICE;
+    // the mark of a missing price, as the format writes it
+    prices[24] = 0xffff_ffff;
     let list = PriceList {
         year: 2026,
         month: 1,
