@@ -1,15 +1,16 @@
 -- A price is found beside its hour, at the hour's place. Assumes nothing.
-use Rattle.std.proofs.Common.{◌≡◌, ℕ, zero, suc, Bool, List, [], ◌∷◌, Some, None, Option, sym, ◌∙◌, refl, subst, ⊎_elim, arith}
+use Rattle.std.proofs.Common.{◌≡◌, ℕ, zero, suc, Bool, List, [], ◌∷◌, Some, None, Err, Option, sym, ◌∙◌, refl, subst, ⊎_elim, arith}
 use Rattle.std.proofs.lemmas.Bool.{cases_Bool, cond-true, cond-false}
 use Rattle.std.proofs.lemmas.Bool.Decides.{nat_tests}
 use Rattle.std.specs.Map.{lookup}
 use Rattle.std.specs.List.{slice_get, zip}
+use Rattle.std.specs.Option.{option_map_or}
 use Rattle.calendar.specs.Hours.{Placed, hours, its_month, same_hour}
 use Rattle.calendar.specs.declared.month.Month.{Month}
 use Rattle.calendar.specs.declared.stamp.Stamp.{Stamp}
 use Rattle.calendar.proofs.Found.{Hit, placed_hit}
 use Rattle.tariffs.specs.Source.{Sound}
-use Rattle.market.specs.DayAheadTable.{lies_in, priced, table_means, tabled, answered}
+use Rattle.market.specs.DayAheadTable.{lies_in, list_means, outside_month, priced, table_means, tabled}
 use Rattle.market.specs.declared.price_list.CheckedPrices.{CheckedPrices}
 use Rattle.market.specs.declared.table.DayAheadTable.{DayAheadTable}
 
@@ -32,9 +33,9 @@ tabled_sound year month prices at =
     ⊎_elim (λ t. subst Sound (sym (cond-true _ _ _ t)) (priced_sound (lookup (same_hour at) (zip (hours (its_month at)) prices))))
     (λ f. subst Sound (sym (cond-false _ _ _ f)) (omega arith, omega arith, omega arith)) (cases_Bool (lies_in year month at))
 
-answered_sound : (o : Option CheckedPrices) (at : Stamp) → Sound (answered o at)
-answered_sound None at = (omega arith, omega arith, omega arith)
-answered_sound (Some list) at = tabled_sound list.month.year list.month.month list.prices.now at
+held_sound : (o : Option CheckedPrices) (at : Stamp) → Sound (option_map_or (λ list. list_means list at) o (Err outside_month))
+held_sound None at = (omega arith, omega arith, omega arith)
+held_sound (Some list) at = tabled_sound list.month.year list.month.month list.prices.now at
 
 pub table_sound : (table : DayAheadTable) (at : Stamp) → Sound (table_means table at)
-table_sound table at = answered_sound table.list at
+table_sound table at = held_sound table.list at
