@@ -113,6 +113,9 @@ placed_own s =
     let m : Month = record { year = s.year; month = s.month; real = month_of_date s.year s.month s.day dated } in
     subst (λ x. Placed x ((s.day - 1) * 24 + s.hour) s) (the_month m) (placed m s.day s.hour s.real)
 
+pub own_below : (s : Stamp) → (s.day - 1) * 24 + s.hour < hour_count (its_month s)
+own_below s = slice_get_within (hours (its_month s)) _ _ (placed_own s).here
+
 days_most : (y m : ℕ) → days y m ≤ 31
 days_most y m = grind (arith, nat_tests)
 

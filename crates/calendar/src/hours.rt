@@ -65,6 +65,7 @@ impl Month {
 
 impl Stamp {
     // The index of the first hour of the stamp's day.
+    #[tactic(auto, using(crate::proofs::Order::placed_own, crate::proofs::Order::own_below))]
     fn day_start(self) -> u16
         ensures place { Placed (its_month self) (result + self.hour) self }
         ensures bound { result + self.hour < hour_count (its_month self) }

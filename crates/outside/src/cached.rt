@@ -17,12 +17,12 @@ pub struct Cached<P: PriceSource> {
 }
 
 impl<P: PriceSource> Cached<P> {
-    ghost use Rattle.std.specs.Prelude.{◌≡◌, IfSome};
+    ghost use Rattle.std.specs.Prelude.{◌≡◌, None, IfSome};
     ghost use Rattle.tariffs.specs.Source.{Sound};
 
     // The source, with nothing remembered yet.
     pub fn new(source: P) -> Cached<P>
-        ensures answer { result.source ≡ source }
+        ensures answer { (result.source ≡ source) × (result.last ≡ None) }
     {
         Cached { source, last: None }
     }

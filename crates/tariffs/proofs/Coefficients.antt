@@ -37,6 +37,7 @@ at_row ThreeZone hour l =
     by_the_rule (48 + hour) (omega arith) ∙ cond-false _ _ _ (le-ltb (48 + hour) 24 (omega arith))
     ∙ cond-false _ _ _ (le-ltb (48 + hour) 48 (omega arith)) ∙ ap (coefficient ThreeZone) back
 
+-- no coefficient is above 15
 pub at_most : (mode : ZoneMode) (hour : ℕ) → coefficient mode hour ≤ 15
 at_most SingleZone hour = omega arith
 at_most TwoZone hour = grind (arith, nat_tests)

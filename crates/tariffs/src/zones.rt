@@ -25,6 +25,7 @@ const COEFFICIENTS: [u8; 72] = [
 ];
 
 // The table's column for an hour.
+#[tactic(auto, using(calendar::proofs::Clock::hour_below))]
 fn column(at: Stamp) -> usize
     ensures value { result ≡ zone_hour at }
     ensures bound { result < 24 }
@@ -76,15 +77,16 @@ impl ZoneMode {
     }
 
     // The table at the mode's row and a column of it.
+    #[tactic(auto, using(crate::proofs::Coefficients::at_row))]
     fn tenths(self, column: usize) -> u32
         requires { column < 24 }
-        ensures value { result ≡ coefficient_of self column }
-        ensures bound { result ≤ 15 }
+        ensures { result ≡ coefficient_of self column }
     {
         u32::from(COEFFICIENTS[self.row() + column])
     }
 
     // What the base price is multiplied by at an hour.
+    #[tactic(auto, using(crate::proofs::Coefficients::at_most))]
     pub fn coefficient(self, at: Stamp) -> Coefficient
         ensures answer { result.tenths ≡ coefficient_of self (zone_hour at) }
     {
