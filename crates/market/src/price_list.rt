@@ -45,6 +45,7 @@ fn first_unlistable(prices: &[u32]) -> Option<usize>
 }
 
 // The hour of the first number that may not stand in a list, which is as long as its month.
+#[tactic(auto, using(crate::proofs::TooHigh::none_too_high, crate::proofs::TooHigh::too_high_at))]
 fn first_too_high(month: Month, prices: &[u32]) -> Option<Stamp>
     requires { length prices.now ≡ hour_count month }
     ensures { result ≡ first_too_high_of (hours month) prices.now }
