@@ -1,7 +1,8 @@
 // Lines of a sheet, and what is read of them.
 use crate::fault::LineFault;
+use crate::rows::AskedRow;
 use crate::typed::Typed;
-use crate::{day_ahead, roles, rows, show_prices};
+use crate::{day_ahead, roles, show_prices};
 use calendar::Stamp;
 use market::PriceList;
 use pricing::StandardChoice;
@@ -159,8 +160,8 @@ fn prices_by_role_and_hours_with_no_price(rt: HostRuntime) -> Result<(), Fail> {
         let Some(at) = month.stamp_at(index) else {
             return Err(Fail::new("no such hour"));
         };
-        let row = roles::priced(rt.alloc(), &setpoints, checked.table(), at)?;
-        assert!(rt; row.as_str() == line);
+        let row = roles::priced(&setpoints, checked.table(), at);
+        assert_eq!(rt; row.to_string(rt.alloc())?.as_str(), line);
     }
     // the three questions with no price go to the table, and to the lower-of for excess energy
     let mut table = checked.table();
@@ -168,12 +169,15 @@ fn prices_by_role_and_hours_with_no_price(rt: HostRuntime) -> Result<(), Fail> {
     let [outside, missing, deeper] = UNPRICED;
     let after = Stamp::new(2026, 2, 1, 0)?;
     let noon = Stamp::new(2026, 1, 1, 12)?;
-    let row = rows::asked_row(rt.alloc(), outside.0, after, table.price(after))?;
-    assert!(rt; row.as_str() == outside.1);
-    let row = rows::asked_row(rt.alloc(), missing.0, noon, table.price(noon))?;
-    assert!(rt; row.as_str() == missing.1);
-    let row = rows::asked_row(rt.alloc(), deeper.0, noon, choice.excess.price(noon))?;
-    assert!(rt; row.as_str() == deeper.1);
+    let asked = [
+        (outside, after, table.price(after)),
+        (missing, noon, table.price(noon)),
+        (deeper, noon, choice.excess.price(noon)),
+    ];
+    for ((what, line), at, answer) in asked {
+        let row = AskedRow { what, at, answer };
+        assert_eq!(rt; row.to_string(rt.alloc())?.as_str(), line);
+    }
     show_prices(&rt, &setpoints)?;
     Ok(())
 }
