@@ -33,7 +33,7 @@ fn refused(
     match list.check() {
         Ok(_) => Some((0, 0, 0)),
         Err(fault) => {
-            let Returned { number, places } = fault.returned();
+            let Returned { number, places } = Returned::from(fault);
             Some((number, places[0], places[1]))
         }
     }

@@ -1,11 +1,13 @@
 -- The numbers of a month, a date or a stamp name it and no other; and what checking them gives. Assumes nothing.
-use Rattle.std.proofs.Common.{◌≡◌, ℕ, Bool, true, false, Some, None, unwrap_or, sym, refl, ap}
+use Rattle.std.proofs.Common.{◌≡◌, ℕ, ◌/◌, ◌%◌, Bool, true, false, Some, None, Ok, Option, unwrap_or, ok_or, sym, refl, ap, ◌∙◌}
 use mathlib.Core.Bool.{Bool-set}
 use Rattle.std.proofs.iter.runs.Lists.{none-some, same_Some}
-use Rattle.std.proofs.lemmas.Bool.{false≢true, and_parts, and_right}
+use Rattle.std.proofs.lemmas.Bool.{cond-true, false≢true, and_parts, and_right}
+use Rattle.std.specs.Result.{result_ok}
 use Rattle.calendar.specs.Calendar.{is_month, is_date, is_hour, among, clock, within, days}
-use Rattle.calendar.specs.Hours.{when, named_month, named_date, named_stamp, month, date, stamp, first_month, first_date, first_hour, its_month}
+use Rattle.calendar.specs.Hours.{when, named_month, named_date, named_stamp, checked_month, checked_date, checked_stamp, numbered_month, month, date, stamp, first_month, first_date, first_hour, its_month}
 use Rattle.calendar.specs.declared.date.Date.{Date}
+use Rattle.calendar.specs.declared.fault.CalendarFault.TheVariants.{NoSuchMonth, NotInMonth}
 use Rattle.calendar.specs.declared.month.Month.{Month}
 use Rattle.calendar.specs.declared.stamp.Stamp.{Stamp}
 
@@ -33,6 +35,27 @@ date_named d = when_passed _ _ d.real
 
 pub stamp_named : (s : Stamp) → named_stamp s.year s.month s.day s.hour ≡ Some s
 stamp_named s = when_passed _ _ s.real
+
+ok_of_ok_or : {X E : Type 0} (o : Option X) (fault : E) → result_ok (ok_or o fault) ≡ o
+ok_of_ok_or None fault = refl
+ok_of_ok_or (Some x) fault = refl
+
+-- numbers that name something are accepted with it
+pub month_checked : (m : Month) → Ok m ≡ checked_month m.year m.month
+month_checked m = sym (ap (λ o. ok_or o NoSuchMonth) (month_named m))
+
+pub date_checked : (d : Date) → Ok d ≡ checked_date d.year d.month d.day
+date_checked d =
+    sym (cond-true (is_month d.year d.month) _ _ (and_parts (is_month d.year d.month) _ d.real).0 ∙ ap (λ o. ok_or o NotInMonth) (date_named d))
+
+pub stamp_checked : (s : Stamp) → Ok s ≡ checked_stamp s.year s.month s.day s.hour
+stamp_checked s =
+    let dated = and_parts (is_date s.year s.month s.day) _ s.real in
+    sym (cond-true (is_month s.year s.month) _ _ (and_parts (is_month s.year s.month) _ dated.0).0 ∙ ap (λ o. ok_or o NotInMonth) (stamp_named s))
+
+-- what a month's number was read as has the year and the month that it writes
+pub month_numbered : (n : ℕ) (m : Month) → Ok m ≡ numbered_month n → (m.year ≡ n / 100) × (m.month ≡ n % 100)
+month_numbered n m is = month_parts (n / 100) (n % 100) m (sym (ok_of_ok_or _ NoSuchMonth) ∙ ap result_ok (sym is))
 
 pub the_month : (m : Month) → m ≡ month m.year m.month
 the_month m = ap (λ o. unwrap_or o first_month) (sym (month_named m))

@@ -1,5 +1,5 @@
 -- Months, dates and stamps as values, and the hours of a month in their order. Assumes nothing.
-use Rattle.std.specs.Prelude.{◌≡◌, ℕ, ◌+◌, Bool, true, false, cond, ◌&&◌, List, map, length, Some, None, Err, Option, Result, ◌==◌, refl}
+use Rattle.std.specs.Prelude.{◌≡◌, ℕ, ◌+◌, ◌/◌, ◌%◌, Bool, true, false, cond, ◌&&◌, List, map, length, Some, None, Err, Option, Result, ◌==◌, refl}
 use Rattle.std.specs.List.{slice_get, range_with_len, flat_map}
 use Rattle.std.specs.Option.{unwrap_or, ok_or}
 use Rattle.calendar.specs.Calendar.{days, is_month, is_date, is_hour, clock}
@@ -33,6 +33,10 @@ checked_date y m d = cond (is_month y m) (ok_or (named_date y m d) NotInMonth) (
 
 abbrev pub checked_stamp : ℕ → ℕ → ℕ → ℕ → Result Stamp CalendarFault
 checked_stamp y m d h = cond (is_month y m) (ok_or (named_stamp y m d h) NotInMonth) (Err NoSuchMonth)
+
+-- the month that year × 100 + month writes
+abbrev pub numbered_month : ℕ → Result Month CalendarFault
+numbered_month n = checked_month (n / 100) (n % 100)
 
 -- the month after: December is followed by January of the next year, and December 2099 by none
 abbrev pub next_month : Month → Option Month

@@ -12,15 +12,17 @@ const DAY_HOURS: usize = 24;
 
 impl Date {
     // Whether the day has an hour that starts then.
+    #[tactic(auto, using(crate::proofs::Clock::on_clock))]
     pub(crate) fn has_hour(self, hour: u8) -> bool
         ensures { result ≡ among hour (clock self.year self.month self.day) }
     {
-        (hour as usize) < DAY_HOURS
+        usize::from(hour) < DAY_HOURS
     }
 }
 
 impl Month {
     // The month's days, each of which has all 24 hours.
+    #[tactic(auto, using(crate::proofs::Order::hours_by_day))]
     fn full_days(self) -> u8
         ensures { result * 24 ≡ hour_count self }
     {
@@ -32,7 +34,7 @@ impl Month {
         ensures answer { result ≡ hour_count self }
         ensures bound { result < 2 ^ 16 }
     {
-        self.full_days() as usize * DAY_HOURS
+        usize::from(self.full_days()) * DAY_HOURS
     }
 
     // The hour at an index of the month, counted from 0; none past its last. Stamp::index is its inverse.
@@ -65,7 +67,7 @@ impl Stamp {
         ensures place { Placed (its_month self) (result + self.hour) self }
         ensures bound { result + self.hour < hour_count (its_month self) }
     {
-        (self.day as u16 - 1) * DAY_HOURS as u16
+        (u16::from(self.day) - 1) * DAY_HOURS as u16
     }
 
     // Where the hour stands among those of its month, counted from 0. Month::stamp_at is its inverse.
@@ -73,6 +75,6 @@ impl Stamp {
         ensures answer { Placed (its_month self) result self }
         ensures bound { result < hour_count (its_month self) }
     {
-        self.day_start() as usize + self.hour as usize
+        usize::from(self.day_start()) + usize::from(self.hour)
     }
 }

@@ -1,29 +1,37 @@
--- The first price that is too high is the one with which the list's hours are refused. Assumes nothing.
-use Rattle.std.proofs.Common.{◌≡◌, ℕ, zero, suc, ◌<◌, true, false, List, [], ◌∷◌, length, get_or, Some, None, sym, refl, ◌∙◌, ⊎_elim, arith}
+-- The first number that may not stand in a list is found beside its hour. Assumes nothing.
+use Rattle.std.proofs.Common.{◌≡◌, ℕ, zero, suc, not, List, [], ◌∷◌, length, Some, None, Option, sym, refl, ap, ◌∙◌, ⊎_elim, arith}
 use Rattle.std.proofs.iter.runs.Lists.{none-some}
 use Rattle.std.proofs.lemmas.Bool.{cases_Bool, cond-true, cond-false}
-use Rattle.std.specs.List.{slice_get}
+use Rattle.std.proofs.lemmas.Grind.{common_steps}
+use Rattle.std.proofs.lemmas.Option.{slice_get_past}
+use Rattle.std.specs.List.{AllPass, position, position_or_len, slice_get}
 use Rattle.calendar.specs.declared.stamp.Stamp.{Stamp}
 use Rattle.market.specs.PriceList.{first_too_high, listable}
-use Rattle.market.specs.Scanning.{Fine}
 
-pub none_too_high : (hs : List Stamp) (ps : List ℕ) → Fine ps (length ps) → first_too_high hs ps ≡ None
-none_too_high [] ps fine = refl
-none_too_high (h ∷ hs) [] fine = refl
-none_too_high (h ∷ hs) (p ∷ ps) fine = cond-true _ _ _ (fine 0 (omega arith)) ∙ none_too_high hs ps (λ k l. fine (suc k) (omega arith))
+-- the place of the first number that may not stand in a list, or the list's length
+abbrev place : List ℕ → ℕ
+place prices = position_or_len (λ price. not (listable price)) prices
 
-pub first_is : (hs : List Stamp) (ps : List ℕ) (i : ℕ) (s : Stamp) → slice_get hs i ≡ Some s → i < length ps → listable (get_or ps i 0) ≡ false → Fine ps i → first_too_high hs ps ≡ Some s
-first_is [] ps i s here l high fine = absurd (none-some s here)
-first_is (h ∷ hs) [] i s here l high fine = absurd (omega arith)
-first_is (h ∷ hs) (p ∷ ps) zero s here l high fine = cond-false _ _ _ high ∙ here
-first_is (h ∷ hs) (p ∷ ps) (suc i) s here l high fine =
-    cond-true _ _ _ (fine 0 (omega arith)) ∙ first_is hs ps i s here (omega arith) high (λ k m. fine (suc k) (omega arith))
+at_place : (hs : List Stamp) (ps : List ℕ) → length ps ≡ length hs → first_too_high hs ps ≡ slice_get hs (place ps)
+at_place [] ps same = refl
+at_place (h ∷ hs) [] same = absurd (omega arith)
+at_place (h ∷ hs) (p ∷ ps) same =
+    ⊎_elim
+    (λ t. let next : place (p ∷ ps) ≡ suc (place ps) = cond-true _ _ _ (ap (λ b. not (not b)) t) ∙ omega arith in
+    cond-true _ _ _ t ∙ at_place hs ps (omega arith) ∙ sym (ap (slice_get (h ∷ hs)) next))
+    (λ f. cond-false _ _ _ f ∙ ap (slice_get (h ∷ hs)) (sym (cond-false _ _ _ (ap (λ b. not (not b)) f)))) (cases_Bool (listable p))
 
-pub all_fine : (hs : List Stamp) (ps : List ℕ) → first_too_high hs ps ≡ None → (k : ℕ) → k < length hs → k < length ps → listable (get_or ps k 0) ≡ true
-all_fine [] ps none k l m = absurd (omega arith)
-all_fine (h ∷ hs) [] none k l m = absurd (omega arith)
-all_fine (h ∷ hs) (p ∷ ps) none zero l m =
+pub none_too_high : (hs : List Stamp) (ps : List ℕ) → length ps ≡ length hs → position (λ price. not (listable price)) ps ≡ None → first_too_high hs ps ≡ None
+none_too_high hs ps same none = at_place hs ps same ∙ slice_get_past hs (place ps) (grind (arith, common_steps))
+
+pub too_high_at : (hs : List Stamp) (ps : List ℕ) (i : ℕ) (s : Option Stamp) → length ps ≡ length hs → position (λ price. not (listable price)) ps ≡ Some i → slice_get hs i ≡ s → first_too_high hs ps ≡ s
+too_high_at hs ps i s same some here = let e : place ps ≡ i = grind (arith, common_steps) in at_place hs ps same ∙ ap (slice_get hs) e ∙ here
+
+pub all_listable : (hs : List Stamp) (ps : List ℕ) → length ps ≡ length hs → first_too_high hs ps ≡ None → AllPass listable ps
+all_listable [] ps same none k d l = absurd (omega arith)
+all_listable (h ∷ hs) [] same none k d l = absurd (omega arith)
+all_listable (h ∷ hs) (p ∷ ps) same none zero d l =
     ⊎_elim (λ t. t) (λ f. absurd (none-some h (sym none ∙ cond-false _ _ _ f))) (cases_Bool (listable p))
-all_fine (h ∷ hs) (p ∷ ps) none (suc k) l m =
-    ⊎_elim (λ t. all_fine hs ps (sym (cond-true _ _ _ t) ∙ none) k (omega arith) (omega arith))
+all_listable (h ∷ hs) (p ∷ ps) same none (suc k) d l =
+    ⊎_elim (λ t. all_listable hs ps (omega arith) (sym (cond-true _ _ _ t) ∙ none) k d (omega arith))
     (λ f. absurd (none-some h (sym none ∙ cond-false _ _ _ f))) (cases_Bool (listable p))

@@ -33,11 +33,15 @@ tabled year month prices at = cond (lies_in year month at) (priced (lookup (same
 
 -- what a checked list says of every stamp
 abbrev pub list_means : CheckedPrices → Meaning
-list_means list = tabled list.year list.month list.prices.now
+list_means list = tabled list.month.year list.month.month list.prices.now
 
--- what a table means
+-- what a table means: what its list says, and every stamp lies outside the month of none
+abbrev pub answered : Option CheckedPrices → Meaning
+answered None at = Err outside_month
+answered (Some list) at = list_means list at
+
 abbrev pub table_means : DayAheadTable → Meaning
-table_means table = tabled table.year table.month table.prices.now
+table_means table = answered table.list
 
 -- what a table has to mean: cause 1 outside its month, cause 2 at a missing price, else the price listed at the hour's place
 pub record Tabled (m : Month) (prices : List ℕ) (means : Meaning) : Type 0 where

@@ -1,4 +1,4 @@
+pub mod CheckedPrices
 pub mod DayAheadTable
 pub mod Faults
 pub mod PriceList
-pub mod Scanning

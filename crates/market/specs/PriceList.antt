@@ -1,5 +1,5 @@
 -- Which lists of numbers are the day-ahead prices of a month. Assumes nothing.
-use Rattle.std.specs.Prelude.{◌≡◌, ℕ, Bool, cond, ◌||◌, List, [], ◌∷◌, length, Some, None, Ok, Err, Option, Result, ◌==◌}
+use Rattle.std.specs.Prelude.{ℕ, Bool, cond, ◌||◌, List, [], ◌∷◌, length, Some, None, Option, ◌==◌}
 use Rattle.calendar.specs.Hours.{hour_count, hours, named_month}
 use Rattle.calendar.specs.declared.fault.CalendarFault.TheVariants.{NoSuchMonth}
 use Rattle.calendar.specs.declared.month.Month.{Month}
@@ -7,7 +7,6 @@ use Rattle.calendar.specs.declared.stamp.Stamp.{Stamp}
 use Rattle.tariffs.specs.Source.{is_price}
 use Rattle.market.specs.declared.fault.PriceListFault.{PriceListFault}
 use Rattle.market.specs.declared.fault.PriceListFault.TheVariants.{Calendar, WrongLength, TooHigh}
-use Rattle.market.specs.declared.price_list.CheckedPrices.{CheckedPrices}
 
 -- what stands for a missing price: FFFFFFFF in hexadecimal
 abbrev pub mark : ℕ
@@ -36,12 +35,3 @@ refused (Some m) prices = cond (length prices == hour_count m) (too_high (first_
 -- why a list is refused, if it is: first the month that its numbers name
 abbrev pub refusal : ℕ → ℕ → List ℕ → Option PriceListFault
 refusal year month prices = refused (named_month year month) prices
-
--- what passed is the list that was given: its year, its month and its prices
-abbrev pub Holds : ℕ → ℕ → List ℕ → CheckedPrices → Type 0
-Holds year month prices list = (list.year ≡ year) × (list.month ≡ month) × (list.prices.now ≡ prices)
-
--- a list passes as it is where nothing refuses it, and else is refused for the first reason that applies
-abbrev pub Checked : ℕ → ℕ → List ℕ → Result CheckedPrices PriceListFault → Type 0
-Checked year month prices (Ok list) = (refusal year month prices ≡ None) × Holds year month prices list
-Checked year month prices (Err fault) = refusal year month prices ≡ Some fault

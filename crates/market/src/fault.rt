@@ -4,6 +4,7 @@ ghost use Rattle.market.specs.Faults.{returned_list, words_list};
 ghost use Rattle.market.specs.declared.fault.PriceListFault.TheVariants.{Calendar};
 
 use calendar::{CalendarFault, Returned};
+use std::error::Error;
 use std::fmt;
 
 #[derive(Clone, Copy, Debug, PartialEq, Eq)]
@@ -24,17 +25,14 @@ impl From<CalendarFault> for PriceListFault {
     }
 }
 
-impl PriceListFault {
-    // The refusal's number and places.
-    pub fn returned(self) -> Returned
-        ensures answer { result ≡ returned_list self }
-    {
-        match self {
-            PriceListFault::Calendar(fault) => fault.returned(),
-            PriceListFault::WrongLength => Returned {
-                number: 10,
-                places: [0, 0, 0, 0, 0],
-            },
+// The refusal's number and places.
+impl From<PriceListFault> for Returned {
+    ghost from_gives = { λ fault r. r ≡ returned_list fault };
+
+    fn from(fault: PriceListFault) -> Returned {
+        match fault {
+            PriceListFault::Calendar(fault) => Returned::from(fault),
+            PriceListFault::WrongLength => Returned::bare(10),
             PriceListFault::TooHigh { day, hour } => Returned {
                 number: 11,
                 places: [u32::from(day), u32::from(hour), 0, 0, 0],
@@ -59,3 +57,5 @@ impl fmt::Display for PriceListFault {
         }
     }
 }
+
+impl Error for PriceListFault {}

@@ -6,5 +6,5 @@ mod price_list;
 mod table;
 
 pub use fault::PriceListFault;
-pub use price_list::{CheckedPrices, PriceList};
+pub use price_list::{CheckedPrices, MISSING_PRICE, PriceList};
 pub use table::DayAheadTable;

@@ -1,20 +1,19 @@
 // A month's list of day-ahead prices: lent by the caller, and checked once.
-ghost use Rattle.std.specs.Prelude.{◌≡◌, length, IfOk, None};
-ghost use Rattle.calendar.specs.Hours.{hour_count, hours, month as month_of};
-ghost use Rattle.market.specs.DayAheadTable.{Tabled, list_means};
-ghost use Rattle.market.specs.PriceList.{Checked, Holds, first_too_high, listable, refusal, too_high as too_high_of};
-ghost use Rattle.market.specs.Scanning.{First};
+ghost use Rattle.std.specs.Prelude.{◌≡◌, length, not, position};
+ghost use Rattle.std.specs.List.{AllPass};
+ghost use Rattle.calendar.specs.Hours.{hour_count, hours};
+ghost use Rattle.market.specs.PriceList.{first_too_high as first_too_high_of, listable};
 
 use crate::fault::PriceListFault;
-use calendar::Month;
+use calendar::{Month, Stamp};
 
 // No price is higher.
-pub(crate) const MOST_POINTS: u32 = 150_000_000;
+const MOST_POINTS: u32 = 150_000_000;
 
-// What stands for a missing price.
-const MISSING: u32 = 0xffff_ffff;
+// What stands in a list for a price that is missing.
+pub const MISSING_PRICE: u32 = 0xffff_ffff;
 
-// A year, a month and prices in points, in the order of the month's hours; FFFFFFFF stands for a missing one. Not checked yet.
+// A year, a month and prices in points, in the order of the month's hours; MISSING_PRICE stands for a missing one. Not checked yet.
 #[derive(Clone, Copy)]
 pub struct PriceList<'a> {
     pub year: u16,
@@ -22,47 +21,44 @@ pub struct PriceList<'a> {
     pub prices: &'a [u32],
 }
 
-// A list that passed the check, and nothing else: only the check makes one.
+// A list that passed the check: a price or the mark of a missing one for each hour of a month.
 #[derive(Clone, Copy)]
 pub struct CheckedPrices<'a> {
-    pub(crate) year: u16,
-    pub(crate) month: u8,
-    pub(crate) prices: &'a [u32],
+    pub month: Month,
+    pub prices: &'a [u32],
+    ghost as_long: { length prices.now ≡ hour_count month },
+    ghost may_stand: { AllPass listable prices.now },
 }
 
 // Whether a number may stand in a list.
 fn may_stand(price: u32) -> bool
     ensures { result ≡ listable price }
 {
-    price <= MOST_POINTS || price == MISSING
+    price <= MOST_POINTS || price == MISSING_PRICE
 }
 
 // The index of the first number that may not stand in a list.
 fn first_unlistable(prices: &[u32]) -> Option<usize>
-    ensures { First prices.now result }
+    ensures { result ≡ position (λ price. not (listable price)) prices.now }
 {
-    for (index, price) in prices.iter().enumerate() {
-        if !may_stand(*price) {
-            return Some(index);
-        }
-    }
-    None
+    prices.iter().position(|&price| !may_stand(price))
 }
 
-// The refusal of the first price that is too high, in a list that is as long as its month.
-fn too_high(month: Month, prices: &[u32]) -> Option<PriceListFault>
+// The hour of the first number that may not stand in a list, which is as long as its month.
+fn first_too_high(month: Month, prices: &[u32]) -> Option<Stamp>
     requires { length prices.now ≡ hour_count month }
-    ensures { result ≡ too_high_of (first_too_high (hours month) prices.now) }
+    ensures { result ≡ first_too_high_of (hours month) prices.now }
 {
     let index = first_unlistable(prices)?;
-    let at = month.stamp_at(index)?;
-    Some(PriceListFault::TooHigh {
-        day: at.day,
-        hour: at.hour,
-    })
+    month.stamp_at(index)
 }
 
 impl<'a> PriceList<'a> {
+    ghost use Rattle.std.specs.Prelude.{IfOk};
+    ghost use Rattle.calendar.specs.Hours.{month as month_of};
+    ghost use Rattle.market.specs.CheckedPrices.{Checked};
+    ghost use Rattle.market.specs.DayAheadTable.{Tabled, list_means};
+
     // Refusal 4 where there is no such month, then 10 where the list is not as long as the month, then 11 at the first price
     // that is too high.
     pub fn check(self) -> Result<CheckedPrices<'a>, PriceListFault>
@@ -73,22 +69,15 @@ impl<'a> PriceList<'a> {
         if self.prices.len() != month.hours() {
             return Err(PriceListFault::WrongLength);
         }
-        if let Some(fault) = too_high(month, self.prices) {
-            return Err(fault);
+        if let Some(at) = first_too_high(month, self.prices) {
+            return Err(PriceListFault::TooHigh {
+                day: at.day,
+                hour: at.hour,
+            });
         }
-        Ok(self.passed())
-    }
-
-    // A list that nothing refuses.
-    fn passed(self) -> CheckedPrices<'a>
-        requires { refusal self.year self.month self.prices.now ≡ None }
-        ensures parts { Holds self.entry.year self.entry.month self.entry.prices.now result }
-        ensures law { Tabled (month_of self.entry.year self.entry.month) self.entry.prices.now (list_means result) }
-    {
-        CheckedPrices {
-            year: self.year,
-            month: self.month,
+        Ok(CheckedPrices {
+            month,
             prices: self.prices,
-        }
+        })
     }
 }

@@ -11,19 +11,18 @@ use calendar::Stamp;
 use market::DayAheadTable;
 use tariffs::{LowerOf, PriceSource, Rate, SourceFault, ZoneMode, ZoneTariff};
 
-// What is asked for the price: the table, the table and a cap, or a tariff alone.
+// One type for every rule, each with what it prices by.
 #[derive(Clone, Copy)]
-pub(crate) enum Terms {
-    DayAhead,
-    Capped(ZoneTariff),
-    FreePrice(ZoneTariff),
-}
-
-// One type for every rule. The table stands beside the terms, and is the empty one where they do not go by it.
-#[derive(Clone, Copy)]
-pub struct Sale<'a> {
-    pub(crate) terms: Terms,
-    pub(crate) table: DayAheadTable<'a>,
+pub enum Sale<'a> {
+    // rule 1: at the table
+    DayAhead(DayAheadTable<'a>),
+    // rule 2: at the lower of the table and a tariff
+    Capped {
+        table: DayAheadTable<'a>,
+        cap: ZoneTariff,
+    },
+    // rule 3: at one price for all hours
+    FreePrice(Rate),
 }
 
 impl<'a> Sale<'a> {
@@ -31,33 +30,21 @@ impl<'a> Sale<'a> {
     pub fn day_ahead(table: DayAheadTable<'a>) -> Sale<'a>
         ensures answer { (at : Stamp) → sale_means result at ≡ table_means table.entry at }
     {
-        Sale {
-            terms: Terms::DayAhead,
-            table,
-        }
+        Sale::DayAhead(table)
     }
 
     // Rule 2: at the lower of the table and a tariff.
     pub fn capped(table: DayAheadTable<'a>, cap: ZoneTariff) -> Sale<'a>
         ensures answer { (at : Stamp) → sale_means result at ≡ lower (table_means table.entry) (tariff_means cap) at }
     {
-        Sale {
-            terms: Terms::Capped(cap),
-            table,
-        }
+        Sale::Capped { table, cap }
     }
 
     // Rule 3: at one price for all hours.
     pub fn free_price(price: Rate) -> Sale<'static>
         ensures answer { (at : Stamp) → sale_means result at ≡ zoned SingleZone price.kopiykas_per_mwh at }
     {
-        Sale {
-            terms: Terms::FreePrice(ZoneTariff {
-                mode: ZoneMode::SingleZone,
-                base: price,
-            }),
-            table: DayAheadTable::empty(),
-        }
+        Sale::FreePrice(price)
     }
 }
 
@@ -65,16 +52,23 @@ impl PriceSource for Sale<'_> {
     ghost means = { sale_means };
 
     fn price(&mut self, at: Stamp) -> Result<u32, SourceFault> {
-        match self.terms {
-            Terms::DayAhead => self.table.price(at),
-            Terms::Capped(cap) => {
+        // the parts are asked as copies: what they mean is kept
+        match *self {
+            Sale::DayAhead(mut table) => table.price(at),
+            Sale::Capped { table, cap } => {
                 let mut lower = LowerOf {
-                    first: self.table,
+                    first: table,
                     second: cap,
                 };
                 lower.price(at)
             }
-            Terms::FreePrice(mut tariff) => tariff.price(at),
+            Sale::FreePrice(base) => {
+                let mut tariff = ZoneTariff {
+                    mode: ZoneMode::SingleZone,
+                    base,
+                };
+                tariff.price(at)
+            }
         }
     }
 }

@@ -1,4 +1,5 @@
 pub mod Faults
+pub mod Reads
 pub mod Setpoint
 pub mod Setpoints
 pub mod Values

@@ -1,5 +1,5 @@
 -- Which twelve numbers are allowed as setpoints, and what holds them. Assumes nothing.
-use Rattle.std.specs.Prelude.{◌≡◌, ℕ, ◌-◌, ◌%◌, Bool, true, false, cond, ◌&&◌, List, [], ◌∷◌, Some, None, Ok, Err, Option, Result, nat_le, slice_index}
+use Rattle.std.specs.Prelude.{◌≡◌, ℕ, ◌-◌, ◌%◌, Bool, cond, ◌&&◌, List, [], ◌∷◌, Some, None, Ok, Err, Option, Result, nat_le, slice_index}
 use Rattle.calendar.specs.Calendar.{within, number}
 use Rattle.tariffs.specs.Rate.{is_rate}
 use Rattle.tariffs.specs.Zones.{mode_number}
@@ -66,11 +66,6 @@ held x Transmission = x.transmission.kopiykas_per_mwh
 held x StorageMetered = storage_number x.storage
 held x FirstMonth = number x.first_month.year x.first_month.month
 held x PayoutFloor = x.payout_floor.0
-
--- one value: read where its test passes, into what has it as its number, and else refused
-abbrev pub Reads : {X : Type 0} → Setpoint → ℕ → Bool → (X → ℕ) → Result X SetpointFault → Type 0
-Reads s n test number_of (Ok x) = (test ≡ true) × (number_of x ≡ n)
-Reads s n test number_of (Err fault) = (test ≡ false) × (fault ≡ NotAllowed s)
 
 -- accepted numbers are held as they were typed; the others are refused, for the first reason that applies
 abbrev pub Checked : List ℕ → Result Setpoints SetpointFault → Type 0

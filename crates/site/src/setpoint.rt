@@ -1,6 +1,6 @@
 // The twelve setpoints by name.
 ghost use Rattle.std.specs.Prelude.{◌≡◌, Some};
-ghost use Rattle.site.specs.Setpoint.{all_setpoints, name as name_of, setpoint_number};
+ghost use Rattle.site.specs.Setpoint.{all_setpoints};
 
 use std::fmt;
 
@@ -40,12 +40,16 @@ impl Setpoint {
             Setpoint::PayoutFloor,
         ]
     }
+}
 
-    // 1 to 12.
-    pub fn number(self) -> u32
-        ensures answer { result ≡ setpoint_number self }
-    {
-        match self {
+// 1 to 12.
+impl From<Setpoint> for u32 {
+    ghost use Rattle.site.specs.Setpoint.{setpoint_number};
+
+    ghost from_gives = { λ s n. n ≡ setpoint_number s };
+
+    fn from(setpoint: Setpoint) -> u32 {
+        match setpoint {
             Setpoint::AccountNumber => 1,
             Setpoint::ContractedPower => 2,
             Setpoint::InstalledPower => 3,
@@ -60,12 +64,16 @@ impl Setpoint {
             Setpoint::PayoutFloor => 12,
         }
     }
+}
 
-    // The name that a person reads.
-    fn name(self) -> &'static str
-        ensures { result.now ≡ name_of self }
-    {
-        match self {
+// The name that a person reads.
+impl fmt::Display for Setpoint {
+    ghost use Rattle.site.specs.Setpoint.{name};
+
+    ghost output = { λ s. Some (name s) };
+
+    fn fmt<W: fmt::Write>(&self, f: &mut fmt::Formatter<W>) -> fmt::Result {
+        f.write_str(match self {
             Setpoint::AccountNumber => "account number",
             Setpoint::ContractedPower => "contracted power",
             Setpoint::InstalledPower => "installed power",
@@ -78,15 +86,6 @@ impl Setpoint {
             Setpoint::StorageMetered => "storage metered",
             Setpoint::FirstMonth => "first month",
             Setpoint::PayoutFloor => "payout floor",
-        }
-    }
-}
-
-// The setpoint's name.
-impl fmt::Display for Setpoint {
-    ghost output = { λ s. Some (name_of s) };
-
-    fn fmt<W: fmt::Write>(&self, f: &mut fmt::Formatter<W>) -> fmt::Result {
-        f.write_str(self.name())
+        })
     }
 }

@@ -1,6 +1,10 @@
 // What the setpoints hold.
 ghost use Rattle.std.specs.Prelude.{◌≡◌};
+ghost use Rattle.site.specs.Reads.{ReadsRule, ReadsStorage};
 ghost use Rattle.site.specs.Values.{rule_number, storage_number};
+
+use crate::fault::SetpointFault;
+use crate::setpoint::Setpoint;
 
 // The account's number with the supplier.
 #[derive(Clone, Copy, Debug, PartialEq, Eq)]
@@ -24,12 +28,28 @@ pub enum SaleRule {
     FreePrice,
 }
 
-impl SaleRule {
-    // 1, 2 or 3.
-    pub fn number(self) -> u32
-        ensures answer { result ≡ rule_number self }
-    {
-        match self {
+// The rule that setpoint 7 writes.
+impl TryFrom<u32> for SaleRule {
+    type Error = SetpointFault;
+
+    ghost try_from_gives = { ReadsRule };
+
+    fn try_from(number: u32) -> Result<SaleRule, SetpointFault> {
+        match number {
+            1 => Ok(SaleRule::DayAhead),
+            2 => Ok(SaleRule::CappedDayAhead),
+            3 => Ok(SaleRule::FreePrice),
+            _ => Err(SetpointFault::NotAllowed(Setpoint::SaleRule)),
+        }
+    }
+}
+
+// 1, 2 or 3.
+impl From<SaleRule> for u32 {
+    ghost from_gives = { λ x n. n ≡ rule_number x };
+
+    fn from(rule: SaleRule) -> u32 {
+        match rule {
             SaleRule::DayAhead => 1,
             SaleRule::CappedDayAhead => 2,
             SaleRule::FreePrice => 3,
@@ -44,12 +64,27 @@ pub enum StorageMetering {
     Metered,
 }
 
-impl StorageMetering {
-    // 0 or 1.
-    pub fn number(self) -> u32
-        ensures answer { result ≡ storage_number self }
-    {
-        match self {
+// The flag that setpoint 10 writes.
+impl TryFrom<u32> for StorageMetering {
+    type Error = SetpointFault;
+
+    ghost try_from_gives = { ReadsStorage };
+
+    fn try_from(number: u32) -> Result<StorageMetering, SetpointFault> {
+        match number {
+            0 => Ok(StorageMetering::Unmetered),
+            1 => Ok(StorageMetering::Metered),
+            _ => Err(SetpointFault::NotAllowed(Setpoint::StorageMetered)),
+        }
+    }
+}
+
+// 0 or 1.
+impl From<StorageMetering> for u32 {
+    ghost from_gives = { λ x n. n ≡ storage_number x };
+
+    fn from(storage: StorageMetering) -> u32 {
+        match storage {
             StorageMetering::Unmetered => 0,
             StorageMetering::Metered => 1,
         }

@@ -1,17 +1,11 @@
 -- The table of coefficients is the rule: a test of every place of the table, which antt computes. Assumes nothing.
-use Rattle.std.proofs.Common.{◌≡◌, ℕ, zero, suc, ◌+◌, ◌-◌, ◌<◌, ◌≤◌, Bool, true, cond, ◌&&◌, eqb, ltb, List, [], ◌∷◌, get_or, refl, ap, ◌∙◌, arith}
+use Rattle.std.proofs.Common.{◌≡◌, ℕ, zero, suc, ◌+◌, ◌-◌, ◌<◌, ◌≤◌, Bool, true, cond, ◌&&◌, eqb, ltb, get_or, refl, ap, ◌∙◌, arith}
 use Rattle.std.proofs.lemmas.Bool.{cond-true, cond-false, lt-ltb, le-ltb}
 use Rattle.std.proofs.lemmas.Bool.Decides.{Decides-below_and, Decides-eqb, nat_tests}
 use Rattle.tariffs.specs.Zones.{coefficient, row}
+use Rattle.tariffs.specs.declared.zones.TheConstants.{COEFFICIENTS}
 use Rattle.tariffs.specs.declared.zones.ZoneMode.{ZoneMode}
 use Rattle.tariffs.specs.declared.zones.ZoneMode.TheVariants.{SingleZone, TwoZone, ThreeZone}
-
--- the table as the code has it
-abbrev pub table : List ℕ
-table =
-    10 ∷ 10 ∷ 10 ∷ 10 ∷ 10 ∷ 10 ∷ 10 ∷ 10 ∷ 10 ∷ 10 ∷ 10 ∷ 10 ∷ 10 ∷ 10 ∷ 10 ∷ 10 ∷ 10 ∷ 10 ∷ 10 ∷ 10 ∷ 10 ∷ 10 ∷ 10 ∷ 10
-    ∷ 5 ∷ 5 ∷ 5 ∷ 5 ∷ 5 ∷ 5 ∷ 5 ∷ 10 ∷ 10 ∷ 10 ∷ 10 ∷ 10 ∷ 10 ∷ 10 ∷ 10 ∷ 10 ∷ 10 ∷ 10 ∷ 10 ∷ 10 ∷ 10 ∷ 10 ∷ 10 ∷ 5
-    ∷ 4 ∷ 4 ∷ 4 ∷ 4 ∷ 4 ∷ 4 ∷ 4 ∷ 10 ∷ 15 ∷ 15 ∷ 15 ∷ 10 ∷ 10 ∷ 10 ∷ 10 ∷ 10 ∷ 10 ∷ 10 ∷ 10 ∷ 10 ∷ 15 ∷ 15 ∷ 10 ∷ 4 ∷ []
 
 -- the rule at a place of the table: three rows of 24
 ruled : ℕ → ℕ
@@ -23,15 +17,15 @@ all_below p (suc n) = p n && all_below p n
 
 ruled_at : ℕ → Bool
 unfolding ruled
-ruled_at k = eqb (get_or table k 0) (ruled k)
+ruled_at k = eqb (get_or COEFFICIENTS k 0) (ruled k)
 
-by_the_rule : (k : ℕ) → k < 72 → get_or table k 0 ≡ ruled k
+by_the_rule : (k : ℕ) → k < 72 → get_or COEFFICIENTS k 0 ≡ ruled k
 unfolding ruled ruled_at
 by_the_rule =
-    (Decides-below_and ruled_at (λ k. get_or table k 0 ≡ ruled k) (all_below ruled_at) (λ k. Decides-eqb (get_or table k 0) (ruled k)) refl
+    (Decides-below_and ruled_at (λ k. get_or COEFFICIENTS k 0 ≡ ruled k) (all_below ruled_at) (λ k. Decides-eqb (get_or COEFFICIENTS k 0) (ruled k)) refl
     (λ _. refl) 72).0 refl
 
-pub at_row : (mode : ZoneMode) (hour : ℕ) → hour < 24 → get_or table (row mode + hour) 0 ≡ coefficient mode hour
+pub at_row : (mode : ZoneMode) (hour : ℕ) → hour < 24 → get_or COEFFICIENTS (row mode + hour) 0 ≡ coefficient mode hour
 unfolding ruled
 at_row SingleZone hour l = by_the_rule (0 + hour) (omega arith) ∙ cond-true _ _ _ (lt-ltb (0 + hour) 24 (omega arith))
 at_row TwoZone hour l =

@@ -1,3 +1,4 @@
+pub mod Coefficient
 pub mod Faults
 pub mod LowerOf
 pub mod Rate

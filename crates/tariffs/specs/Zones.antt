@@ -1,7 +1,9 @@
 -- The zones of the day: their coefficients by the rule. Assumes nothing.
-use Rattle.std.specs.Prelude.{ℕ, Bool, cond, ◌||◌, ◌==◌, nat_le}
+use Rattle.std.specs.Prelude.{◌≡◌, ℕ, Bool, true, false, cond, ◌||◌, ◌==◌, nat_le, Ok, Err, Result}
 use Rattle.calendar.specs.Calendar.{within}
 use Rattle.calendar.specs.declared.stamp.Stamp.{Stamp}
+use Rattle.tariffs.specs.declared.fault.TariffFault.{TariffFault}
+use Rattle.tariffs.specs.declared.fault.TariffFault.TheVariants.{NoSuchTariff}
 use Rattle.tariffs.specs.declared.zones.ZoneMode.{ZoneMode}
 use Rattle.tariffs.specs.declared.zones.ZoneMode.TheVariants.{SingleZone, TwoZone, ThreeZone}
 
@@ -10,6 +12,11 @@ abbrev pub mode_number : ZoneMode → ℕ
 mode_number SingleZone = 1
 mode_number TwoZone = 2
 mode_number ThreeZone = 3
+
+-- the mode of a number, or the refusal where no mode has it
+abbrev pub Moded : ℕ → Result ZoneMode TariffFault → Type 0
+Moded number (Ok mode) = (within 1 3 number ≡ true) × (mode_number mode ≡ number)
+Moded number (Err fault) = (within 1 3 number ≡ false) × (fault ≡ NoSuchTariff)
 
 -- the hour of the table by which a stamp is priced
 abbrev pub zone_hour : Stamp → ℕ

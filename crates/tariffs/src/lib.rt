@@ -1,6 +1,7 @@
 // What energy costs at an hour: the zones of the day, the zone tariff, the trait of price sources, and the lower of two.
 #![tactic(auto)]
 
+mod coefficient;
 mod fault;
 mod lower_of;
 mod rate;
@@ -8,6 +9,7 @@ mod source;
 mod zone_tariff;
 mod zones;
 
+pub use coefficient::Coefficient;
 pub use fault::{SourceFault, TariffFault};
 pub use lower_of::LowerOf;
 pub use rate::Rate;

@@ -16,13 +16,8 @@ impl<A: PriceSource, B: PriceSource> PriceSource for LowerOf<A, B> {
 
     // The second is asked only where the first has a price.
     fn price(&mut self, at: Stamp) -> Result<u32, SourceFault> {
-        let first = match self.first.price(at) {
-            Ok(price) => price,
-            Err(fault) => return Err(fault.deeper()),
-        };
-        match self.second.price(at) {
-            Ok(second) => Ok(first.min(second)),
-            Err(fault) => Err(fault.deeper()),
-        }
+        let first = self.first.price(at).map_err(SourceFault::deeper)?;
+        let second = self.second.price(at).map_err(SourceFault::deeper)?;
+        Ok(first.min(second))
     }
 }

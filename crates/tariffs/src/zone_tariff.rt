@@ -7,7 +7,7 @@ use crate::source::PriceSource;
 use crate::zones::ZoneMode;
 use calendar::Stamp;
 
-#[derive(Clone, Copy)]
+#[derive(Clone, Copy, Debug, PartialEq, Eq)]
 pub struct ZoneTariff {
     pub mode: ZoneMode,
     pub base: Rate,
@@ -18,12 +18,8 @@ impl ZoneTariff {
     pub fn new(mode: u32, base: u32) -> Result<ZoneTariff, TariffFault>
         ensures answer { Checked mode base result }
     {
-        let Some(mode) = ZoneMode::from_number(mode) else {
-            return Err(TariffFault::NoSuchTariff);
-        };
-        let Some(base) = Rate::new(base) else {
-            return Err(TariffFault::NoSuchTariff);
-        };
+        let mode = ZoneMode::try_from(mode)?;
+        let base = Rate::try_from(base)?;
         Ok(ZoneTariff { mode, base })
     }
 }

@@ -1,8 +1,9 @@
 // The zones of the day: how a base price is weighted by the hour.
-ghost use Rattle.std.specs.Prelude.{◌≡◌, ◌<◌, ◌≤◌, false, MatchOption};
-ghost use Rattle.calendar.specs.Calendar.{within};
+ghost use Rattle.std.specs.Prelude.{◌≡◌, ◌<◌, ◌≤◌};
 ghost use Rattle.tariffs.specs.Zones.{coefficient as coefficient_of, mode_number, row as row_of, zone_hour};
 
+use crate::coefficient::Coefficient;
+use crate::fault::TariffFault;
 use calendar::Stamp;
 
 // How many zones the meter tells apart.
@@ -13,7 +14,7 @@ pub enum ZoneMode {
     ThreeZone,
 }
 
-// Tenths of the base price: a row for each mode, a column for each hour 0 to 23.
+// Tenths of the base price: a row for each mode, a column for each hour 0 to 23. One flat table is the project's form.
 const COEFFICIENTS: [u8; 72] = [
     // one zone: every hour alike
     10, 10, 10, 10, 10, 10, 10, 10, 10, 10, 10, 10, 10, 10, 10, 10, 10, 10, 10, 10, 10, 10, 10, 10,
@@ -31,30 +32,38 @@ fn column(at: Stamp) -> usize
     usize::from(at.hour)
 }
 
-impl ZoneMode {
-    // The mode that setpoint 4 writes as 1, 2 or 3.
-    pub fn from_number(number: u32) -> Option<ZoneMode>
-        ensures answer { MatchOption result (within 1 3 number ≡ false) (λ mode. mode_number mode ≡ number) }
-    {
+// The mode that setpoint 4 writes as 1, 2 or 3.
+impl TryFrom<u32> for ZoneMode {
+    type Error = TariffFault;
+
+    ghost use Rattle.tariffs.specs.Zones.{Moded};
+
+    ghost try_from_gives = { Moded };
+
+    fn try_from(number: u32) -> Result<ZoneMode, TariffFault> {
         match number {
-            1 => Some(ZoneMode::SingleZone),
-            2 => Some(ZoneMode::TwoZone),
-            3 => Some(ZoneMode::ThreeZone),
-            _ => None,
+            1 => Ok(ZoneMode::SingleZone),
+            2 => Ok(ZoneMode::TwoZone),
+            3 => Ok(ZoneMode::ThreeZone),
+            _ => Err(TariffFault::NoSuchTariff),
         }
     }
+}
 
-    // 1, 2 or 3.
-    pub fn number(self) -> u32
-        ensures answer { result ≡ mode_number self }
-    {
-        match self {
+// 1, 2 or 3.
+impl From<ZoneMode> for u32 {
+    ghost from_gives = { λ mode n. n ≡ mode_number mode };
+
+    fn from(mode: ZoneMode) -> u32 {
+        match mode {
             ZoneMode::SingleZone => 1,
             ZoneMode::TwoZone => 2,
             ZoneMode::ThreeZone => 3,
         }
     }
+}
 
+impl ZoneMode {
     // Where the mode's row of the table begins.
     fn row(self) -> usize
         ensures { result ≡ row_of self }
@@ -75,11 +84,12 @@ impl ZoneMode {
         u32::from(COEFFICIENTS[self.row() + column])
     }
 
-    // What the base price is multiplied by at an hour, in tenths.
-    pub fn coefficient(self, at: Stamp) -> u32
-        ensures answer { result ≡ coefficient_of self (zone_hour at) }
-        ensures bound { result ≤ 15 }
+    // What the base price is multiplied by at an hour.
+    pub fn coefficient(self, at: Stamp) -> Coefficient
+        ensures answer { result.tenths ≡ coefficient_of self (zone_hour at) }
     {
-        self.tenths(column(at))
+        Coefficient {
+            tenths: self.tenths(column(at)),
+        }
     }
 }

@@ -14,14 +14,14 @@ impl Setpoints {
             Setpoint::AccountNumber => self.account.0,
             Setpoint::ContractedPower => self.contracted_power.0,
             Setpoint::InstalledPower => self.installed_power.0,
-            Setpoint::ZoneMode => self.zone_mode.number(),
+            Setpoint::ZoneMode => u32::from(self.zone_mode),
             Setpoint::PurchaseBase => self.purchase_base.kopiykas_per_mwh,
             Setpoint::FreeSalePrice => self.free_sale_price.kopiykas_per_mwh,
-            Setpoint::SaleRule => self.sale_rule.number(),
+            Setpoint::SaleRule => u32::from(self.sale_rule),
             Setpoint::Distribution => self.distribution.kopiykas_per_mwh,
             Setpoint::Transmission => self.transmission.kopiykas_per_mwh,
-            Setpoint::StorageMetered => self.storage.number(),
-            Setpoint::FirstMonth => self.first_month.number(),
+            Setpoint::StorageMetered => u32::from(self.storage),
+            Setpoint::FirstMonth => u32::from(self.first_month),
             Setpoint::PayoutFloor => self.payout_floor.0,
         }
     }

@@ -1,0 +1,5 @@
+use Rattle.calendar.proofs.Named.{date_checked}
+use Rattle.calendar.proofs.date.Date.new.Goals as goal
+
+pub returns-clause-answer : goal.returns-clause-answer
+returns-clause-answer c = date_checked _

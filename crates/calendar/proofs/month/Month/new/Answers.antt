@@ -1,0 +1,5 @@
+use Rattle.calendar.proofs.Named.{month_checked}
+use Rattle.calendar.proofs.month.Month.new.Goals as goal
+
+pub returns-clause-answer : goal.returns-clause-answer
+returns-clause-answer c = month_checked _
