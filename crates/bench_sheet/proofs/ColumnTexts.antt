@@ -8,9 +8,10 @@ use Rattle.std.specs.Fmt.{char_count, digit_glyph, digits, digits_onto, format_s
 use Rattle.site.specs.Setpoint.{name}
 use Rattle.site.specs.declared.setpoint.Setpoint.{Setpoint}
 use Rattle.site.specs.declared.setpoint.Setpoint.TheVariants.{AccountNumber, ContractedPower, InstalledPower, ZoneMode, PurchaseBase, FreeSalePrice, SaleRule, Distribution, Transmission, StorageMetered, FirstMonth, PayoutFloor}
+use Rattle.tariffs.specs.Coefficient.{tenths_text}
 use Rattle.tariffs.specs.declared.fault.SourceFault.{SourceFault}
 use Rattle.bench_sheet.specs.Columns.{left, right}
-use Rattle.bench_sheet.specs.Rows.{answer_text, per_kwh, tenths_text}
+use Rattle.bench_sheet.specs.Rows.{answer_text, per_kwh}
 
 -- a text of at most n bytes, each of which is a character
 pub record IsNarrow (n : ℕ) (text : List ℕ) : Type 0 where

@@ -7,6 +7,8 @@ use Rattle.site.specs.Setpoint.{setpoint_number, name}
 use Rattle.site.specs.declared.fault.SetpointFault.{SetpointFault}
 use Rattle.site.specs.declared.setpoint.Setpoint.{Setpoint}
 use Rattle.site.specs.declared.setpoint.Setpoint.TheVariants.{AccountNumber, ContractedPower, InstalledPower, ZoneMode, PurchaseBase, FreeSalePrice, SaleRule, Distribution, Transmission, StorageMetered, FirstMonth, PayoutFloor}
+use Rattle.tariffs.specs.Coefficient.{tenths_text}
+use Rattle.tariffs.specs.Faults.{words_source}
 use Rattle.tariffs.specs.declared.fault.SourceFault.{SourceFault}
 use Rattle.bench_sheet.specs.declared.fault.LineFault.{LineFault}
 use Rattle.bench_sheet.specs.declared.fault.LineFault.TheVariants.{NotADigit, TooLarge, TooMany}
@@ -65,10 +67,6 @@ two_digits n = decimal (n / 10) ++ decimal (n % 10)
 abbrev pub hour_start : ℕ → List ℕ
 hour_start hour = decimal (hour / 10) ++ (decimal (hour % 10) ++ codes ":00")
 
--- tenths with a decimal
-abbrev pub tenths_text : ℕ → List ℕ
-tenths_text n = decimal (n / 10) ++ (codes "." ++ decimal (n % 10))
-
 -- the hour's start, the coefficient, the price in kopiykas per kWh and in points
 abbrev pub zone_row : ℕ → ℕ → ℕ → List ℕ
 zone_row hour tenths points = codes "  " ++ (hour_start hour ++ (right 14 (tenths_text tenths) ++ (right 18 (per_kwh points) ++ right 13 (decimal points))))
@@ -76,7 +74,7 @@ zone_row hour tenths points = codes "  " ++ (hour_start hour ++ (right 14 (tenth
 -- the answer of a source: a price in kopiykas per kWh, or the fault's cause and depth
 abbrev pub answer_text : Result ℕ SourceFault → List ℕ
 answer_text (Ok points) = per_kwh points
-answer_text (Err fault) = codes "cause " ++ (decimal fault.cause ++ (codes ", depth " ++ decimal fault.depth))
+answer_text (Err fault) = words_source fault
 
 -- a date and the start of an hour
 abbrev pub stamp_text : Stamp → List ℕ

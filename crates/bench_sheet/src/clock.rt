@@ -9,7 +9,7 @@ use tariffs::{PriceSource, ZoneTariff};
 // An hour's row: the tariff is asked, and a zone tariff has a price at every hour.
 pub fn hour_row(tariff: ZoneTariff, at: Stamp) -> ZoneRow
     ensures hour { result.hour ≡ at.hour }
-    ensures coefficient { result.tenths ≡ coefficient tariff.mode (zone_hour at) }
+    ensures coefficient { result.coefficient.tenths ≡ coefficient tariff.mode (zone_hour at) }
     ensures price { result.points ≡ tariff.base.kopiykas_per_mwh * coefficient tariff.mode (zone_hour at) }
 {
     let mut source = tariff;
@@ -18,7 +18,7 @@ pub fn hour_row(tariff: ZoneTariff, at: Stamp) -> ZoneRow
     };
     ZoneRow {
         hour: at.hour,
-        tenths: tariff.mode.coefficient(at),
+        coefficient: tariff.mode.coefficient(at),
         points,
     }
 }

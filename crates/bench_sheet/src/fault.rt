@@ -4,7 +4,7 @@ ghost use Rattle.std.specs.Prelude.{Some};
 use std::error::Error;
 use std::fmt;
 
-// Why a line cannot be read.
+// Why a line cannot be read. Its message begins with the line's number, which only a SheetFault has.
 #[derive(Clone, Copy, Debug, PartialEq, Eq)]
 pub enum LineFault {
     NotADigit(usize),
@@ -15,10 +15,9 @@ pub enum LineFault {
 // Why a sheet has no twelve numbers to give.
 #[derive(Clone, Copy, Debug, PartialEq, Eq)]
 pub enum SheetFault {
-    // the number of a line that cannot be read, and why
-    Unreadable(u64, LineFault),
-    // the number of the last line, and how many numbers there were by then
-    TooFew(u64, usize),
+    Unreadable { line: u64, fault: LineFault },
+    // the last line, and how many numbers there were by then
+    TooFew { line: u64, count: usize },
 }
 
 impl fmt::Display for SheetFault {
@@ -28,19 +27,19 @@ impl fmt::Display for SheetFault {
 
     fn fmt<W: fmt::Write>(&self, f: &mut fmt::Formatter<W>) -> fmt::Result {
         match *self {
-            SheetFault::Unreadable(line, LineFault::NotADigit(column)) => {
-                write!(
-                    f,
-                    "line {line}, column {column}: not a digit, a blank or a #"
-                )
-            }
-            SheetFault::Unreadable(line, LineFault::TooLarge(column)) => {
-                write!(f, "line {line}, column {column}: a number above 4294967295")
-            }
-            SheetFault::Unreadable(line, LineFault::TooMany) => {
-                write!(f, "line {line}: more than twelve numbers")
-            }
-            SheetFault::TooFew(line, count) => {
+            SheetFault::Unreadable { line, fault } => match fault {
+                LineFault::NotADigit(column) => {
+                    write!(
+                        f,
+                        "line {line}, column {column}: not a digit, a blank or a #"
+                    )
+                }
+                LineFault::TooLarge(column) => {
+                    write!(f, "line {line}, column {column}: a number above 4294967295")
+                }
+                LineFault::TooMany => write!(f, "line {line}: more than twelve numbers"),
+            },
+            SheetFault::TooFew { line, count } => {
                 write!(f, "after line {line}: only {count} of twelve numbers")
             }
         }

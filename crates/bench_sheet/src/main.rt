@@ -29,16 +29,17 @@ use typed::Typed;
 fn typed_in(rt: &HostRuntime) -> anyhow::Result<[u32; 12]> {
     let mut typed = Typed::none();
     let mut last = 0;
-    for (number, line) in (1u64..).zip(rt.lines(rt.alloc())) {
-        let line = line.map_err(|error| anyhow!("line {number}: {error}"))?;
+    for (line, text) in (1u64..).zip(rt.lines(rt.alloc())) {
+        let text = text.map_err(|error| anyhow!("line {line}: {error}"))?;
         typed = typed
-            .read_line(line.as_bytes())
-            .map_err(|fault| SheetFault::Unreadable(number, fault))?;
-        last = number;
+            .read_line(text.as_bytes())
+            .map_err(|fault| SheetFault::Unreadable { line, fault })?;
+        last = line;
     }
-    let numbers = typed
-        .twelve()
-        .ok_or(SheetFault::TooFew(last, typed.count()))?;
+    let numbers = typed.twelve().ok_or(SheetFault::TooFew {
+        line: last,
+        count: typed.count(),
+    })?;
     Ok(numbers)
 }
 

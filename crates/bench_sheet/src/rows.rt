@@ -3,11 +3,11 @@ ghost use Rattle.std.specs.Prelude.{◌≡◌, Some};
 ghost use Rattle.bench_sheet.specs.Rows.{asked_row, refusal_row, setpoint_row, unit as unit_of, zone_row};
 
 use crate::columns::Column;
-use crate::texts::{Answer, DateAndHour, HourStart, PerKwh, Tenths};
-use calendar::Stamp;
+use crate::texts::{Answer, DateAndHour, HourStart, PerKwh};
+use calendar::{Returned, Stamp};
 use site::{Setpoint, SetpointFault};
 use std::fmt;
-use tariffs::SourceFault;
+use tariffs::{Coefficient, SourceFault};
 
 // What a setpoint is measured in.
 fn unit(setpoint: Setpoint) -> &'static str
@@ -40,7 +40,7 @@ impl fmt::Display for SetpointRow {
 
     fn fmt<W: fmt::Write>(&self, f: &mut fmt::Formatter<W>) -> fmt::Result {
         let SetpointRow { setpoint, value } = *self;
-        let number = setpoint.number();
+        let number = u32::from(setpoint);
         let name = Column(setpoint);
         write!(f, "{number:>4}  {name:<20}{value:>11}{}", unit(setpoint))
     }
@@ -54,7 +54,8 @@ impl fmt::Display for RefusalRow {
     ghost output = { λ r. Some (refusal_row r.0) };
 
     fn fmt<W: fmt::Write>(&self, f: &mut fmt::Formatter<W>) -> fmt::Result {
-        write!(f, "refused: {} {}", self.0.returned(), self.0)
+        let RefusalRow(fault) = *self;
+        write!(f, "refused: {} {fault}", Returned::from(fault))
     }
 }
 
@@ -62,21 +63,21 @@ impl fmt::Display for RefusalRow {
 #[derive(Clone, Copy)]
 pub struct ZoneRow {
     pub hour: u8,
-    pub tenths: u32,
+    pub coefficient: Coefficient,
     pub points: u32,
 }
 
 impl fmt::Display for ZoneRow {
-    ghost output = { λ r. Some (zone_row r.hour r.tenths r.points) };
+    ghost output = { λ r. Some (zone_row r.hour r.coefficient.tenths r.points) };
 
     fn fmt<W: fmt::Write>(&self, f: &mut fmt::Formatter<W>) -> fmt::Result {
         let ZoneRow {
             hour,
-            tenths,
+            coefficient,
             points,
         } = *self;
         let hour = HourStart(hour);
-        let coefficient = Column(Tenths(tenths));
+        let coefficient = Column(coefficient);
         let price = Column(PerKwh(points));
         write!(f, "  {hour}{coefficient:>14}{price:>18}{points:>13}")
     }

@@ -1,6 +1,6 @@
 // The texts that the sheet's lines are made of.
 ghost use Rattle.std.specs.Prelude.{Some};
-ghost use Rattle.bench_sheet.specs.Rows.{answer_text, hour_start, per_kwh, stamp_text, tenths_text};
+ghost use Rattle.bench_sheet.specs.Rows.{answer_text, hour_start, per_kwh, stamp_text};
 
 use calendar::Stamp;
 use std::fmt;
@@ -16,19 +16,6 @@ impl fmt::Display for PerKwh {
     fn fmt<W: fmt::Write>(&self, f: &mut fmt::Formatter<W>) -> fmt::Result {
         let PerKwh(points) = *self;
         write!(f, "{}.{:04}", points / 10_000, points % 10_000)
-    }
-}
-
-// A number of tenths, with its decimal.
-#[derive(Clone, Copy)]
-pub struct Tenths(pub u32);
-
-impl fmt::Display for Tenths {
-    ghost output = { λ t. Some (tenths_text t.0) };
-
-    fn fmt<W: fmt::Write>(&self, f: &mut fmt::Formatter<W>) -> fmt::Result {
-        let Tenths(tenths) = *self;
-        write!(f, "{}.{}", tenths / 10, tenths % 10)
     }
 }
 
@@ -73,7 +60,7 @@ impl fmt::Display for Answer {
     fn fmt<W: fmt::Write>(&self, f: &mut fmt::Formatter<W>) -> fmt::Result {
         match self.0 {
             Ok(points) => write!(f, "{}", PerKwh(points)),
-            Err(SourceFault { cause, depth }) => write!(f, "cause {cause}, depth {depth}"),
+            Err(fault) => write!(f, "{fault}"),
         }
     }
 }

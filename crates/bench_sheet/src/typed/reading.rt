@@ -7,13 +7,6 @@ use super::Typed;
 use crate::fault::LineFault;
 use arrayvec::ArrayVec;
 
-// What was read of a line: the numbers, and one that is begun.
-#[derive(Drop)]
-struct Scan {
-    typed: Typed,
-    begun: Option<u32>,
-}
-
 // Where the comment of a line starts, if it has one.
 fn comment_start(line: &[u8]) -> Option<usize>
     ensures first { result ≡ position (λ b. b == 35) line.now }
@@ -40,27 +33,11 @@ fn grown(begun: Option<u32>, byte: u8, column: usize) -> Result<u32, LineFault>
     u32::try_from(number).map_err(|_| LineFault::TooLarge(column))
 }
 
-impl Typed {
-    // A sheet with nothing on it yet.
-    pub fn none() -> Typed
-        ensures answer { entered result ≡ [] }
-        ensures law { ReadsBack }
-    {
-        Typed {
-            numbers: ArrayVec::new(),
-        }
-    }
-
-    // The number that is begun, if one is, behind the others.
-    fn ended(self, begun: Option<u32>) -> Result<Typed, LineFault>
-        ensures { MatchResult result (λ t. ended_by (entered self) begun ≡ Ok (entered t)) (λ e. ended_by (entered self) begun ≡ Err e) }
-    {
-        let mut numbers = self.numbers;
-        if let Some(number) = begun {
-            numbers.try_push(number).map_err(|_| LineFault::TooMany)?;
-        }
-        Ok(Typed { numbers })
-    }
+// What was read of a line: the numbers, and one that is begun.
+#[derive(Drop)]
+struct Scan {
+    typed: Typed,
+    begun: Option<u32>,
 }
 
 impl Scan {
@@ -83,6 +60,16 @@ impl Scan {
 }
 
 impl Typed {
+    // A sheet with nothing on it yet.
+    pub fn none() -> Typed
+        ensures answer { entered result ≡ [] }
+        ensures law { ReadsBack }
+    {
+        Typed {
+            numbers: ArrayVec::new(),
+        }
+    }
+
     // The numbers of one line more, behind those of the lines before it.
     pub fn read_line(self, line: &[u8]) -> Result<Typed, LineFault>
         ensures answer { Reads (entered self) line.now result }
@@ -91,14 +78,23 @@ impl Typed {
             typed: self,
             begun: None,
         };
-        for (i, byte) in before_comment(line).iter().enumerate() {
-            scan = scan.step(*byte, i + 1)?;
+        for (index, byte) in before_comment(line).iter().enumerate() {
+            scan = scan.step(*byte, index + 1)?;
         }
         scan.typed.ended(scan.begun)
     }
-}
 
-impl Typed {
+    // The number that is begun, if one is, behind the others.
+    fn ended(self, begun: Option<u32>) -> Result<Typed, LineFault>
+        ensures { MatchResult result (λ t. ended_by (entered self) begun ≡ Ok (entered t)) (λ e. ended_by (entered self) begun ≡ Err e) }
+    {
+        let mut numbers = self.numbers;
+        if let Some(number) = begun {
+            numbers.try_push(number).map_err(|_| LineFault::TooMany)?;
+        }
+        Ok(Typed { numbers })
+    }
+
     // How many numbers were typed in.
     pub fn count(&self) -> usize
         ensures answer { result ≡ length (entered self.now) }
