@@ -5,9 +5,8 @@ use Rattle.std.proofs.lemmas.Bool.{cases_lt}
 use Rattle.std.proofs.lemmas.Fmt.{decimal_digit, decimal_step, decimal_nonempty}
 use Rattle.std.proofs.lemmas.List.{replicate_more}
 use Rattle.std.specs.Fmt.{format_spec, padded_integral}
-use Rattle.calendar.specs.declared.stamp.Stamp.{Stamp}
 use Rattle.bench_sheet.specs.Columns.{right}
-use Rattle.bench_sheet.specs.Rows.{hour_start, per_kwh, stamp_text, two_digits}
+use Rattle.bench_sheet.specs.Rows.{hour_start, per_kwh, two_digits}
 
 -- a number at the right of a column
 pub number_right : (w : ℕ) (numeral : List ℕ) → padded_integral (format_spec 32 3 0 w (2 ^ 64 - 1)) false [] numeral ≡ right w numeral
@@ -42,12 +41,6 @@ number_two_digits n small = number_zeros 2 n ∙ zeros_more n small 1 (omega ari
 -- the start of an hour
 pub hour_written : (h : ℕ) → h < 2 ^ 64 → padded_integral (format_spec 32 0 4 2 (2 ^ 64 - 1)) false [] (decimal h) ++ codes ":00" ≡ hour_start h
 hour_written h small = ap (λ ds. ds ++ codes ":00") (number_two_digits h small) ∙ append_assoc (decimal (h / 10)) (decimal (h % 10)) (codes ":00")
-
--- a date and the start of an hour
-pub stamp_written : (at : Stamp) → at.month < 2 ^ 64 → at.day < 2 ^ 64
-    → decimal at.year ++ (codes "-" ++ (padded_integral (format_spec 32 0 4 2 (2 ^ 64 - 1)) false [] (decimal at.month) ++ (codes "-" ++ (padded_integral (format_spec 32 0 4 2 (2 ^ 64 - 1)) false [] (decimal at.day) ++ (codes " " ++ hour_start at.hour)))))
-    ≡ stamp_text at
-stamp_written at month day = rw (number_two_digits at.month month, number_two_digits at.day day)
 
 number_four_digits : (n : ℕ) → n < 2 ^ 64 → padded_integral (format_spec 32 0 4 4 (2 ^ 64 - 1)) false [] (decimal n) ≡ ((decimal (n / 10 / 10 / 10) ++ decimal (n / 10 / 10 % 10)) ++ decimal (n / 10 % 10)) ++ decimal (n % 10)
 number_four_digits n small =

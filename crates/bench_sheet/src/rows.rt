@@ -38,6 +38,7 @@ pub struct SetpointRow {
 impl fmt::Display for SetpointRow {
     ghost output = { λ r. Some (setpoint_row r.setpoint r.value) };
 
+    #[tactic(auto, using(crate::proofs::Options::number_right, crate::proofs::ColumnTexts::name_left))]
     fn fmt<W: fmt::Write>(&self, f: &mut fmt::Formatter<W>) -> fmt::Result {
         let SetpointRow { setpoint, value } = *self;
         let number = u32::from(setpoint);
@@ -70,6 +71,7 @@ pub struct ZoneRow {
 impl fmt::Display for ZoneRow {
     ghost output = { λ r. Some (zone_row r.hour r.coefficient.tenths r.points) };
 
+    #[tactic(auto, using(crate::proofs::Options::number_right, crate::proofs::ColumnTexts::tenths_right, crate::proofs::ColumnTexts::per_kwh_right))]
     fn fmt<W: fmt::Write>(&self, f: &mut fmt::Formatter<W>) -> fmt::Result {
         let ZoneRow {
             hour,
@@ -99,6 +101,7 @@ impl fmt::Display for RolesRow {
 
     ghost output = { λ r. Some (roles_row r) };
 
+    #[tactic(auto, using(crate::proofs::ColumnTexts::answer_right))]
     fn fmt<W: fmt::Write>(&self, f: &mut fmt::Formatter<W>) -> fmt::Result {
         let hour = HourStart(self.hour);
         let bought = Column(Answer(self.bought));

@@ -13,6 +13,7 @@ pub struct PerKwh(pub u32);
 impl fmt::Display for PerKwh {
     ghost output = { λ p. Some (per_kwh p.0) };
 
+    #[tactic(auto, using(crate::proofs::Options::decimals_written))]
     fn fmt<W: fmt::Write>(&self, f: &mut fmt::Formatter<W>) -> fmt::Result {
         let PerKwh(points) = *self;
         write!(f, "{}.{:04}", points / 10_000, points % 10_000)
@@ -26,6 +27,7 @@ pub struct HourStart(pub u8);
 impl fmt::Display for HourStart {
     ghost output = { λ h. Some (hour_start h.0) };
 
+    #[tactic(auto, using(crate::proofs::Options::hour_written))]
     fn fmt<W: fmt::Write>(&self, f: &mut fmt::Formatter<W>) -> fmt::Result {
         let HourStart(hour) = *self;
         write!(f, "{hour:02}:00")
@@ -39,6 +41,7 @@ pub struct DateAndHour(pub Stamp);
 impl fmt::Display for DateAndHour {
     ghost output = { λ s. Some (stamp_text s.0) };
 
+    #[tactic(auto, using(crate::proofs::Options::number_two_digits))]
     fn fmt<W: fmt::Write>(&self, f: &mut fmt::Formatter<W>) -> fmt::Result {
         let Stamp {
             year,

@@ -1,6 +1,0 @@
-use Rattle.std.proofs.Common.{arith}
-use Rattle.bench_sheet.proofs.Options.{decimals_written}
-use Rattle.bench_sheet.proofs.texts.PerKwhDisplay.fmt.Goals as goal
-
-pub returns-clause-writes : goal.returns-clause-writes
-returns-clause-writes g c = rw (c.laid_out.ensures, decimals_written c.args.self.now.0 (omega arith)) at c.write.ensures.writes
