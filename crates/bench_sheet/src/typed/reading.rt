@@ -16,6 +16,7 @@ fn comment_start(line: &[u8]) -> Option<usize>
 }
 
 // The part of a line before its comment.
+#[tactic(auto, using(crate::proofs::Comments::up_to_hash))]
 fn before_comment(line: &[u8]) -> &[u8]
     ensures { result.now ≡ uncommented line.now }
 {
@@ -61,6 +62,7 @@ impl Scan {
 
 impl Typed {
     // A sheet with nothing on it yet.
+    #[tactic(auto, using(crate::proofs::ReadBack::reads_back))]
     pub fn none() -> Typed
         ensures answer { entered result ≡ [] }
         ensures law { ReadsBack }
