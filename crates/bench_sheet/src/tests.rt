@@ -1,6 +1,8 @@
 // Lines of a sheet, and what is read of them.
+use crate::columns::Column;
 use crate::fault::LineFault;
 use crate::rows::AskedRow;
+use crate::texts::{Answer, PerKwh};
 use crate::typed::Typed;
 use crate::{day_ahead, roles, show_prices};
 use calendar::Stamp;
@@ -8,7 +10,7 @@ use market::PriceList;
 use pricing::StandardChoice;
 use site::Setpoints;
 use std::test::Fail;
-use tariffs::PriceSource;
+use tariffs::{PriceSource, SourceFault};
 
 // How many numbers a line has, or why it cannot be read.
 fn count(line: &str) -> Result<usize, LineFault> {
@@ -30,10 +32,7 @@ const READ: [(&str, usize); 9] = [
 #[test]
 fn lines_that_are_read(rt: HostRuntime) -> Result<(), Fail> {
     for (line, expected) in READ {
-        match count(line) {
-            Ok(found) => assert_eq!(rt; found, expected),
-            Err(_) => return Err(Fail::new(line)),
-        }
+        assert_eq!(rt; count(line), Ok(expected));
     }
     Ok(())
 }
@@ -53,10 +52,7 @@ const UNREADABLE: [(&str, LineFault); 8] = [
 #[test]
 fn lines_that_are_not(rt: HostRuntime) -> Result<(), Fail> {
     for (line, expected) in UNREADABLE {
-        match count(line) {
-            Ok(_) => return Err(Fail::new(line)),
-            Err(fault) => assert!(rt; fault == expected),
-        }
+        assert_eq!(rt; count(line), Err(expected));
     }
     Ok(())
 }
@@ -78,18 +74,13 @@ fn a_sheet_of_several_lines_reads_as_typed(rt: HostRuntime) -> Result<(), Fail> 
     assert_eq!(rt; typed.count(), 11);
     assert!(rt; typed.twelve().is_none());
     typed = typed.read_line(b"10000")?;
-    match typed.twelve() {
-        Some(numbers) => {
-            assert!(rt;
-                numbers
-                    == [
-                        100245, 50000, 30000, 3, 432000, 300000, 2, 150000, 40000, 1, 202601, 10000,
-                    ]
-            );
-            Ok(())
-        },
-        None => Err(Fail::new("not twelve")),
-    }
+    assert_eq!(rt;
+        typed.twelve(),
+        Some([
+            100245, 50000, 30000, 3, 432000, 300000, 2, 150000, 40000, 1, 202601, 10000,
+        ])
+    );
+    Ok(())
 }
 
 // The setpoints of the committed sheet.
@@ -143,9 +134,7 @@ const UNPRICED: [(&str, &str); 3] = [
 
 #[test]
 fn prices_by_role_and_hours_with_no_price(rt: HostRuntime) -> Result<(), Fail> {
-    let Ok(setpoints) = Setpoints::check(SHEET) else {
-        return Err(Fail::new("refused"));
-    };
+    let setpoints = Setpoints::check(SHEET)?;
     let month = setpoints.first_month;
     let prices = day_ahead::held(rt.alloc(), month, &day_ahead::DAY)?;
     let list = PriceList {
@@ -153,9 +142,7 @@ fn prices_by_role_and_hours_with_no_price(rt: HostRuntime) -> Result<(), Fail> {
         month: month.month,
         prices: prices.as_slice(),
     };
-    let Ok(checked) = list.check() else {
-        return Err(Fail::new("no such list"));
-    };
+    let checked = list.check()?;
     for (index, line) in ROLES {
         let Some(at) = month.stamp_at(index) else {
             return Err(Fail::new("no such hour"));
@@ -179,5 +166,24 @@ fn prices_by_role_and_hours_with_no_price(rt: HostRuntime) -> Result<(), Fail> {
         assert_eq!(rt; row.to_string(rt.alloc())?.as_str(), line);
     }
     show_prices(&rt, &setpoints)?;
+    Ok(())
+}
+
+// No clause says that a text has room in its column: these are the longest.
+#[test]
+fn the_longest_texts_have_room_in_a_column(rt: HostRuntime) -> Result<(), Fail> {
+    let fault = Column(Answer(Err(SourceFault {
+        cause: 255,
+        depth: 255,
+    })));
+    assert_eq!(rt;
+        format!(in rt.alloc(); "{fault:>24}")?.as_str(),
+        "    cause 255, depth 255"
+    );
+    let price = Column(PerKwh(u32::MAX));
+    assert_eq!(rt;
+        format!(in rt.alloc(); "{price:>13}")?.as_str(),
+        "  429496.7295"
+    );
     Ok(())
 }

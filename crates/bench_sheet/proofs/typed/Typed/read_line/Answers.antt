@@ -1,12 +1,9 @@
-use Rattle.std.proofs.Common.{◌≡◌, ◌+◌, drop, None, sym, refl, ap, ◌∙◌}
+use Rattle.std.proofs.Common.{◌≡◌, ◌+◌, drop, None, sym, ap, ◌∙◌}
 use Rattle.std.proofs.lemmas.List.{at_drop_more, at_drop_all}
 use Rattle.std.proofs.lemmas.Result.{MatchResult-weaker, err_from_is_err_and}
 use Rattle.bench_sheet.specs.Reading.{ended, entered, reading, uncommented}
 use Rattle.bench_sheet.specs.Scanning.{from_there}
 use Rattle.bench_sheet.proofs.typed.Typed.read_line.Goals as goal
-
-pub loop-index-init : goal.loop-index-init
-loop-index-init c = refl
 
 pub returns-in_err-scan : goal.returns-in_err-scan
 returns-in_err-scan c =
