@@ -1,26 +1,23 @@
 // The calendar at its edges.
-use calendar::{CalendarFault, Date, Month, Stamp};
+use calendar::{CalendarFault, Date, Month, Returned, Stamp};
 use std::test::Fail;
 
-// The refusal's number, or 0.
-fn refusal<T: Drop>(answer: Result<T, CalendarFault>) -> u32 {
-    match answer {
-        Ok(_) => 0,
-        Err(fault) => fault.returned().number,
-    }
+// The refusal's number, where it is one.
+fn refusal<T: Drop>(answer: Result<T, CalendarFault>) -> Option<u32> {
+    answer.err().map(|fault| Returned::from(fault).number)
 }
 
 // year, month, refusal
-const MONTHS: [(u16, u8, u32); 9] = [
-    (2019, 12, 4),
-    (2020, 1, 0),
-    (2099, 12, 0),
-    (2100, 1, 4),
-    (2024, 0, 4),
-    (2024, 13, 4),
-    (0, 1, 4),
-    (65535, 255, 4),
-    (2024, 6, 0),
+const MONTHS: [(u16, u8, Option<u32>); 9] = [
+    (2019, 12, Some(4)),
+    (2020, 1, None),
+    (2099, 12, None),
+    (2100, 1, Some(4)),
+    (2024, 0, Some(4)),
+    (2024, 13, Some(4)),
+    (0, 1, Some(4)),
+    (65535, 255, Some(4)),
+    (2024, 6, None),
 ];
 
 #[test]
@@ -31,26 +28,26 @@ fn months_are_refused_outside_their_years(rt: HostRuntime) {
 }
 
 // year, month, day, hour, refusal of the date, refusal of the stamp
-const STAMPS: [(u16, u8, u8, u8, u32, u32); 18] = [
-    (2024, 2, 29, 0, 0, 0),
-    (2025, 2, 29, 0, 25, 25),
-    (2025, 2, 28, 23, 0, 0),
-    (2024, 2, 30, 0, 25, 25),
-    (2024, 1, 0, 0, 25, 25),
-    (2024, 1, 1, 23, 0, 0),
-    (2024, 1, 1, 24, 0, 25),
-    (2024, 1, 1, 255, 0, 25),
-    (2024, 1, 31, 0, 0, 0),
-    (2024, 1, 32, 0, 25, 25),
-    (2024, 4, 30, 0, 0, 0),
-    (2024, 4, 31, 0, 25, 25),
-    (2096, 2, 29, 12, 0, 0),
-    (2099, 12, 31, 23, 0, 0),
+const STAMPS: [(u16, u8, u8, u8, Option<u32>, Option<u32>); 18] = [
+    (2024, 2, 29, 0, None, None),
+    (2025, 2, 29, 0, Some(25), Some(25)),
+    (2025, 2, 28, 23, None, None),
+    (2024, 2, 30, 0, Some(25), Some(25)),
+    (2024, 1, 0, 0, Some(25), Some(25)),
+    (2024, 1, 1, 23, None, None),
+    (2024, 1, 1, 24, None, Some(25)),
+    (2024, 1, 1, 255, None, Some(25)),
+    (2024, 1, 31, 0, None, None),
+    (2024, 1, 32, 0, Some(25), Some(25)),
+    (2024, 4, 30, 0, None, None),
+    (2024, 4, 31, 0, Some(25), Some(25)),
+    (2096, 2, 29, 12, None, None),
+    (2099, 12, 31, 23, None, None),
     // the month comes before the day and the hour
-    (2024, 0, 1, 0, 4, 4),
-    (2024, 13, 0, 24, 4, 4),
-    (2019, 2, 29, 24, 4, 4),
-    (2100, 2, 29, 0, 4, 4),
+    (2024, 0, 1, 0, Some(4), Some(4)),
+    (2024, 13, 0, 24, Some(4), Some(4)),
+    (2019, 2, 29, 24, Some(4), Some(4)),
+    (2100, 2, 29, 0, Some(4), Some(4)),
 ];
 
 #[test]
@@ -74,20 +71,17 @@ const LENGTHS: [(u16, u8, u8, usize, u32); 6] = [
 #[test]
 fn a_month_has_its_days_and_hours(rt: HostRuntime) -> Result<(), Fail> {
     for (year, month, days, hours, number) in LENGTHS {
+        // both ends: the first hour, the last, and none past it
+        let first = Stamp::new(year, month, 1, 0)?;
+        let last = Stamp::new(year, month, days, 23)?;
         let month = Month::new(year, month)?;
         assert_eq!(rt; month.days(), days);
         assert_eq!(rt; month.hours(), hours);
-        assert_eq!(rt; month.number(), number);
-        // both ends: the first hour, the last, and none past it
-        let Some(first) = month.stamp_at(0) else {
-            return Err(Fail::new("no first hour"));
-        };
-        assert_eq!(rt; (first.day, first.hour), (1, 0));
+        assert_eq!(rt; u32::from(month), number);
+        assert_eq!(rt; Month::try_from(number), Ok(month));
+        assert_eq!(rt; month.stamp_at(0), Some(first));
         assert_eq!(rt; first.index(), 0);
-        let Some(last) = month.stamp_at(hours - 1) else {
-            return Err(Fail::new("no last hour"));
-        };
-        assert_eq!(rt; (last.day, last.hour), (days, 23));
+        assert_eq!(rt; month.stamp_at(hours - 1), Some(last));
         assert_eq!(rt; last.index(), hours - 1);
         assert!(rt; month.stamp_at(hours).is_none());
         assert!(rt; month.stamp_at(usize::MAX).is_none());
@@ -95,22 +89,19 @@ fn a_month_has_its_days_and_hours(rt: HostRuntime) -> Result<(), Fail> {
     Ok(())
 }
 
-// a month, and the one after it: 0 for none
-const NEXT: [(u16, u8, u32); 4] = [
-    (2024, 1, 202402),
-    (2024, 12, 202501),
-    (2099, 11, 209912),
-    (2099, 12, 0),
+// a month, and the number of the one after it
+const NEXT: [(u16, u8, Option<u32>); 4] = [
+    (2024, 1, Some(202402)),
+    (2024, 12, Some(202501)),
+    (2099, 11, Some(209912)),
+    (2099, 12, None),
 ];
 
 #[test]
 fn months_follow_each_other(rt: HostRuntime) -> Result<(), Fail> {
     for (year, month, after) in NEXT {
-        let number = match Month::new(year, month)?.next() {
-            Some(next) => next.number(),
-            None => 0,
-        };
-        assert_eq!(rt; number, after);
+        let next = Month::new(year, month)?.next();
+        assert_eq!(rt; next.map(u32::from), after);
     }
     Ok(())
 }

@@ -8,15 +8,11 @@ const GOOD: [u32; 12] = [
     100245, 50000, 1, 3, 432000, 300000, 2, 150000, 40000, 1, 202601, 10000,
 ];
 
-// number and first place of the answer; (0, 0) where the setpoints are accepted
-fn answered(numbers: [u32; 12]) -> (u32, u32) {
-    match Setpoints::check(numbers) {
-        Ok(_) => (0, 0),
-        Err(fault) => {
-            let Returned { number, places } = fault.returned();
-            (number, places[0])
-        }
-    }
+// number and first place of the refusal, where the setpoints are refused
+fn refusal(numbers: [u32; 12]) -> Option<(u32, u32)> {
+    let fault = Setpoints::check(numbers).err()?;
+    let Returned { number, places } = Returned::from(fault);
+    Some((number, places[0]))
 }
 
 // The good numbers with another one at a setpoint.
@@ -51,13 +47,13 @@ const BOUNDS: [(u32, u32, u32); 12] = [
 #[test]
 fn each_setpoint_at_its_bounds_and_one_beyond(rt: HostRuntime) {
     for (setpoint, least, most) in BOUNDS {
-        let refused = (1, setpoint);
-        assert_eq!(rt; answered(with(setpoint, least)), (0, 0));
-        assert_eq!(rt; answered(with(setpoint, most)), (0, 0));
-        assert_eq!(rt; answered(with(setpoint, most.saturating_add(1))), refused);
-        assert_eq!(rt; answered(with(setpoint, u32::MAX)), refused);
+        let refused = Some((1, setpoint));
+        assert_eq!(rt; refusal(with(setpoint, least)), None);
+        assert_eq!(rt; refusal(with(setpoint, most)), None);
+        assert_eq!(rt; refusal(with(setpoint, most.saturating_add(1))), refused);
+        assert_eq!(rt; refusal(with(setpoint, u32::MAX)), refused);
         if least > 0 {
-            assert_eq!(rt; answered(with(setpoint, least - 1)), refused);
+            assert_eq!(rt; refusal(with(setpoint, least - 1)), refused);
         }
     }
 }
@@ -78,46 +74,43 @@ const FIRST_MONTHS: [(u32, bool); 8] = [
 fn the_first_month_is_a_month(rt: HostRuntime) {
     for (value, allowed) in FIRST_MONTHS {
         assert_eq!(rt;
-            answered(with(11, value)),
-            if allowed { (0, 0) } else { (1, 11) }
+            refusal(with(11, value)),
+            if allowed { None } else { Some((1, 11)) }
         );
     }
 }
 
 // two setpoints and their values, and what is answered
-const PAIRS: [(u32, u32, u32, u32, u32, u32); 8] = [
+const PAIRS: [(u32, u32, u32, u32, Option<(u32, u32)>); 8] = [
     // the lowest of two that are not allowed
-    (3, 0, 9, 10_000_001, 1, 3),
-    (12, 0, 1, 0, 1, 1),
-    (11, 202_013, 12, 0, 1, 11),
+    (3, 0, 9, 10_000_001, Some((1, 3))),
+    (12, 0, 1, 0, Some((1, 1))),
+    (11, 202_013, 12, 0, Some((1, 11))),
     // a value that is not allowed comes before the powers
-    (2, 100, 3, 30_001, 1, 3),
-    (2, 0, 3, 1, 1, 2),
+    (2, 100, 3, 30_001, Some((1, 3))),
+    (2, 0, 3, 1, Some((1, 2))),
     // the powers: equal is allowed, above is not
-    (2, 100, 3, 100, 0, 0),
-    (2, 100, 3, 101, 2, 0),
-    (2, 1, 3, 30_000, 2, 0),
+    (2, 100, 3, 100, None),
+    (2, 100, 3, 101, Some((2, 0))),
+    (2, 1, 3, 30_000, Some((2, 0))),
 ];
 
 #[test]
 fn two_causes_at_once(rt: HostRuntime) {
-    for (one, value, other, second, number, place) in PAIRS {
+    for (one, value, other, second, expected) in PAIRS {
         assert_eq!(rt;
-            answered(replaced(with(one, value), other, second)),
-            (number, place)
+            refusal(replaced(with(one, value), other, second)),
+            expected
         );
     }
     // installed above contracted, and a setpoint after them that is not allowed
     let numbers = replaced(replaced(with(2, 1), 3, 2), 12, 0);
-    assert_eq!(rt; answered(numbers), (1, 12));
+    assert_eq!(rt; refusal(numbers), Some((1, 12)));
 }
 
 #[test]
 fn accepted_setpoints_read_back_as_typed(rt: HostRuntime) -> Result<(), Fail> {
-    let setpoints = match Setpoints::check(GOOD) {
-        Ok(setpoints) => setpoints,
-        Err(_) => return Err(Fail::new("refused")),
-    };
+    let setpoints = Setpoints::check(GOOD)?;
     for (setpoint, typed) in Setpoint::all().iter().zip(GOOD.iter()) {
         assert_eq!(rt; setpoints.value(*setpoint), *typed);
     }

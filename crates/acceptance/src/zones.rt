@@ -1,5 +1,5 @@
 // The zones of the day and the zone tariff.
-use calendar::{Month, Returned};
+use calendar::{CalendarFault, Month, Returned};
 use std::test::Fail;
 use tariffs::{PriceSource, ZoneMode, ZoneTariff};
 
@@ -22,45 +22,34 @@ const ZONES: [(u32, usize, usize, u32); 11] = [
 fn coefficients_by_mode_and_hour(rt: HostRuntime) -> Result<(), Fail> {
     let month = Month::new(2026, 3)?;
     for (number, from, to, tenths) in ZONES {
-        let Some(mode) = ZoneMode::from_number(number) else {
-            return Err(Fail::new("no such mode"));
-        };
-        assert_eq!(rt; mode.number(), number);
+        let mode = ZoneMode::try_from(number)?;
+        assert_eq!(rt; u32::from(mode), number);
         for hour in from..to {
-            let Some(at) = month.stamp_at(hour) else {
-                return Err(Fail::new("no such hour"));
-            };
-            assert_eq!(rt; mode.coefficient(at), tenths);
+            let at = month.stamp_at(hour).ok_or(CalendarFault::NotInMonth)?;
+            assert_eq!(rt; mode.coefficient(at).tenths, tenths);
         }
     }
     Ok(())
 }
 
 // mode, base, refusal
-const TARIFFS: [(u32, u32, u32); 9] = [
-    (0, 0, 12),
-    (1, 0, 0),
-    (3, 0, 0),
-    (4, 0, 12),
-    (1, 10_000_000, 0),
-    (1, 10_000_001, 12),
-    (4, 10_000_001, 12),
-    (u32::MAX, 1, 12),
-    (2, u32::MAX, 12),
+const TARIFFS: [(u32, u32, Option<u32>); 9] = [
+    (0, 0, Some(12)),
+    (1, 0, None),
+    (3, 0, None),
+    (4, 0, Some(12)),
+    (1, 10_000_000, None),
+    (1, 10_000_001, Some(12)),
+    (4, 10_000_001, Some(12)),
+    (u32::MAX, 1, Some(12)),
+    (2, u32::MAX, Some(12)),
 ];
 
 #[test]
 fn tariffs_are_refused_by_mode_and_base(rt: HostRuntime) {
     for (mode, base, number) in TARIFFS {
-        let returned = match ZoneTariff::new(mode, base) {
-            Ok(_) => 0,
-            Err(fault) => {
-                let Returned { number, places } = fault.returned();
-                assert!(rt; places == [0, 0, 0, 0, 0]);
-                number
-            }
-        };
-        assert_eq!(rt; returned, number);
+        let refusal = ZoneTariff::new(mode, base).err().map(Returned::from);
+        assert_eq!(rt; refusal, number.map(Returned::bare));
     }
 }
 
@@ -79,16 +68,11 @@ const PRICES: [(u32, u32, usize, u32); 7] = [
 fn a_zone_tariff_is_the_base_times_the_coefficient(rt: HostRuntime) -> Result<(), Fail> {
     let month = Month::new(2026, 3)?;
     for (mode, base, hour, points) in PRICES {
-        let mut tariff = match ZoneTariff::new(mode, base) {
-            Ok(tariff) => tariff,
-            Err(_) => return Err(Fail::new("not allowed")),
-        };
-        let Some(at) = month.stamp_at(hour) else {
-            return Err(Fail::new("no such hour"));
-        };
+        let mut tariff = ZoneTariff::new(mode, base)?;
+        let at = month.stamp_at(hour).ok_or(CalendarFault::NotInMonth)?;
         // asked twice, it answers the same
-        assert!(rt; matches!(tariff.price(at), Ok(price) if price == points));
-        assert!(rt; matches!(tariff.price(at), Ok(price) if price == points));
+        assert_eq!(rt; tariff.price(at), Ok(points));
+        assert_eq!(rt; tariff.price(at), Ok(points));
     }
     Ok(())
 }

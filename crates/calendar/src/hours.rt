@@ -1,7 +1,8 @@
 // The hours of a day and of a month, in their order. All that counts or places hours goes through here.
 ghost use Rattle.std.specs.Prelude.{◌≡◌, ◌+◌, ◌*◌, ◌^◌, ◌<◌, ◌≤◌, MatchOption};
 ghost use Rattle.calendar.specs.Calendar.{among, clock};
-ghost use Rattle.calendar.specs.Hours.{Placed, hour_count, its_month};
+ghost use Rattle.std.specs.List.{slice_get};
+ghost use Rattle.calendar.specs.Hours.{Placed, hour_count, hours, its_month};
 
 use crate::date::Date;
 use crate::month::Month;
@@ -40,6 +41,7 @@ impl Month {
     // The hour at an index of the month, counted from 0; none past its last. Stamp::index is its inverse.
     pub fn stamp_at(self, index: usize) -> Option<Stamp>
         ensures answer { MatchOption result (hour_count self ≤ index) (λ s. Placed self index s) }
+        ensures listed { result ≡ slice_get (hours self) index }
     {
         if index >= self.hours() {
             return None;

@@ -1,5 +1,5 @@
 -- What a checked list says of every stamp is what is listed. Assumes nothing.
-use Rattle.std.proofs.Common.{◌≡◌, ℕ, ◌<◌, true, eqb, List, length, get_or, Some, Ok, Err, sym, ap, ◌∙◌, subst, ⊎_elim, arith}
+use Rattle.std.proofs.Common.{◌≡◌, ℕ, ◌<◌, true, eqb, List, length, get_or, Some, None, Ok, Err, sym, ap, ◌∙◌, subst, ⊎_elim, arith}
 use Rattle.std.proofs.iter.runs.Lists.{slice_get_within}
 use Rattle.std.proofs.lemmas.Option.{slice_get-get_or}
 use Rattle.std.proofs.lemmas.Bool.{cases_Bool, cond-true, cond-false, and_from, and_parts, eq-eqb, eqb-true, or_cases}
@@ -11,9 +11,10 @@ use Rattle.calendar.specs.declared.stamp.Stamp.{Stamp}
 use Rattle.calendar.proofs.Named.{its_month_parts, the_month}
 use Rattle.tariffs.specs.Source.{is_price}
 use Rattle.market.specs.DayAheadTable.{Tabled, lies_in, list_means, missing_price, outside_month, priced, tabled}
-use Rattle.market.specs.PriceList.{listable, mark}
+use Rattle.market.specs.PriceList.{first_too_high, listable, mark}
 use Rattle.market.specs.declared.price_list.CheckedPrices.{CheckedPrices}
 use Rattle.market.proofs.Listed.{listed_at}
+use Rattle.market.proofs.TooHigh.{all_listable}
 
 -- a number that may stand in a list is a price, or the mark
 at_mark : (number : ℕ) → number ≡ mark → priced (Some number) ≡ Err missing_price
@@ -54,19 +55,23 @@ module _ (m : Month) (prices : List ℕ) (long : length prices ≡ hour_count m)
     listed = λ at i placed other. at_place at i placed ∙ at_price (get_or prices i 0) (fine i 0 (within_list at i placed)) other;
   }
 
--- the same of the month that numbers name
-pub as_named : (m : Month) (year number : ℕ) (prices : List ℕ) → m.year ≡ year → m.month ≡ number → length prices ≡ hour_count m → AllPass listable prices → Tabled (month year number) prices (tabled m.year m.month prices)
-as_named m year number prices y n long fine =
-    subst (λ named. Tabled named prices (tabled m.year m.month prices)) (sym (named_by m year number y n)) (as_listed m prices long fine)
+-- the same of the month that numbers name, and of a list in which none is too high
+pub as_named : (m : Month) (year number : ℕ) (prices : List ℕ) → m.year ≡ year → m.month ≡ number → length prices ≡ hour_count m → first_too_high (hours m) prices ≡ None → Tabled (month year number) prices (tabled m.year m.month prices)
+as_named m year number prices y n long none =
+    subst (λ named. Tabled named prices (tabled m.year m.month prices)) (sym (named_by m year number y n))
+    (as_listed m prices long (all_listable (hours m) prices none long))
 
--- what a list that passed the check says of an hour: outside its month, where the price is missing, and else
+-- a list that passed the check; and what it says of an hour: outside its month, where the price is missing, and else
+pub as_checked : (list : CheckedPrices) → Tabled list.month list.prices.now (list_means list)
+as_checked list = as_listed list.month list.prices.now list.as_long list.each_may_stand
+
 pub says_outside : (list : CheckedPrices) (at : Stamp) → (its_month at ≡ list.month → ⊥) → list_means list at ≡ Err outside_month
-says_outside list at other = (as_listed list.month list.prices.now list.as_long list.may_stand).outside at other
+says_outside list at other = (as_checked list).outside at other
 
 pub says_missing : (list : CheckedPrices) (at : Stamp) (i : ℕ) → its_month at ≡ list.month → Placed (its_month at) i at → get_or list.prices.now i 0 ≡ mark → list_means list at ≡ Err missing_price
 says_missing list at i same placed is =
-    (as_listed list.month list.prices.now list.as_long list.may_stand).missing at i (subst (λ m. Placed m i at) same placed) is
+    (as_checked list).missing at i (subst (λ m. Placed m i at) same placed) is
 
 pub says_price : (list : CheckedPrices) (at : Stamp) (i : ℕ) → its_month at ≡ list.month → Placed (its_month at) i at → (get_or list.prices.now i 0 ≡ mark → ⊥) → list_means list at ≡ Ok (get_or list.prices.now i 0)
 says_price list at i same placed other =
-    (as_listed list.month list.prices.now list.as_long list.may_stand).listed at i (subst (λ m. Placed m i at) same placed) other
+    (as_checked list).listed at i (subst (λ m. Placed m i at) same placed) other

@@ -27,11 +27,11 @@ none_too_high hs ps same none = at_place hs ps same ∙ slice_get_past hs (place
 pub too_high_at : (hs : List Stamp) (ps : List ℕ) (i : ℕ) (s : Option Stamp) → length ps ≡ length hs → position (λ price. not (listable price)) ps ≡ Some i → slice_get hs i ≡ s → first_too_high hs ps ≡ s
 too_high_at hs ps i s same some here = let e : place ps ≡ i = grind (arith, common_steps) in at_place hs ps same ∙ ap (slice_get hs) e ∙ here
 
-pub all_listable : (hs : List Stamp) (ps : List ℕ) → length ps ≡ length hs → first_too_high hs ps ≡ None → AllPass listable ps
-all_listable [] ps same none k d l = absurd (omega arith)
-all_listable (h ∷ hs) [] same none k d l = absurd (omega arith)
-all_listable (h ∷ hs) (p ∷ ps) same none zero d l =
+pub all_listable : (hs : List Stamp) (ps : List ℕ) → first_too_high hs ps ≡ None → length ps ≡ length hs → AllPass listable ps
+all_listable [] ps none same k d l = absurd (omega arith)
+all_listable (h ∷ hs) [] none same k d l = absurd (omega arith)
+all_listable (h ∷ hs) (p ∷ ps) none same zero d l =
     ⊎_elim (λ t. t) (λ f. absurd (none-some h (sym none ∙ cond-false _ _ _ f))) (cases_Bool (listable p))
-all_listable (h ∷ hs) (p ∷ ps) same none (suc k) d l =
-    ⊎_elim (λ t. all_listable hs ps (omega arith) (sym (cond-true _ _ _ t) ∙ none) k d (omega arith))
+all_listable (h ∷ hs) (p ∷ ps) none same (suc k) d l =
+    ⊎_elim (λ t. all_listable hs ps (sym (cond-true _ _ _ t) ∙ none) (omega arith) k d (omega arith))
     (λ f. absurd (none-some h (sym none ∙ cond-false _ _ _ f))) (cases_Bool (listable p))

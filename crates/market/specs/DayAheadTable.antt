@@ -2,6 +2,7 @@
 use Rattle.std.specs.Prelude.{◌≡◌, ℕ, Bool, cond, ◌&&◌, List, Some, None, Ok, Err, Option, Result, ◌==◌, ◌≢◌, slice_index}
 use Rattle.std.specs.List.{zip}
 use Rattle.std.specs.Map.{lookup}
+use Rattle.std.specs.Option.{option_map_or}
 use Rattle.calendar.specs.Hours.{Placed, hours, its_month, same_hour}
 use Rattle.calendar.specs.declared.month.Month.{Month}
 use Rattle.calendar.specs.declared.stamp.Stamp.{Stamp}
@@ -35,13 +36,9 @@ tabled year month prices at = cond (lies_in year month at) (priced (lookup (same
 abbrev pub list_means : CheckedPrices → Meaning
 list_means list = tabled list.month.year list.month.month list.prices.now
 
--- what a table means: what its list says, and every stamp lies outside the month of none
-abbrev pub answered : Option CheckedPrices → Meaning
-answered None at = Err outside_month
-answered (Some list) at = list_means list at
-
+-- what a table means: what its list says; without one, every stamp lies outside its month
 abbrev pub table_means : DayAheadTable → Meaning
-table_means table = answered table.list
+table_means table at = option_map_or (λ list. list_means list at) table.list (Err outside_month)
 
 -- what a table has to mean: cause 1 outside its month, cause 2 at a missing price, else the price listed at the hour's place
 pub record Tabled (m : Month) (prices : List ℕ) (means : Meaning) : Type 0 where

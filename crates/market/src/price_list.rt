@@ -27,7 +27,7 @@ pub struct CheckedPrices<'a> {
     pub month: Month,
     pub prices: &'a [u32],
     ghost as_long: { length prices.now ≡ hour_count month },
-    ghost may_stand: { AllPass listable prices.now },
+    ghost each_may_stand: { AllPass listable prices.now },
 }
 
 // Whether a number may stand in a list.

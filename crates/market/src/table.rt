@@ -3,7 +3,7 @@ ghost use Rattle.std.specs.Prelude.{◌≡◌, ◌↔◌, Err, IsSomeAnd, IsTrue
 ghost use Rattle.calendar.specs.Hours.{its_month};
 ghost use Rattle.calendar.specs.declared.stamp.Stamp.{Stamp};
 ghost use Rattle.tariffs.specs.Source.{Sound};
-ghost use Rattle.market.specs.DayAheadTable.{list_means, outside_month, table_means};
+ghost use Rattle.market.specs.DayAheadTable.{Tabled, list_means, outside_month, table_means};
 
 use crate::price_list::{CheckedPrices, MISSING_PRICE};
 use calendar::Stamp;
@@ -26,6 +26,7 @@ impl<'a> CheckedPrices<'a> {
     pub fn table(self) -> DayAheadTable<'a>
         ensures answer { IsSomeAnd result.list (λ list. (list.month ≡ self.entry.month) × (list.prices.now ≡ self.entry.prices.now)) }
         ensures meaning { (at : Stamp) → table_means result at ≡ list_means self.entry at }
+        ensures law { Tabled self.entry.month self.entry.prices.now (table_means result) }
     {
         DayAheadTable { list: Some(self) }
     }

@@ -1,4 +1,3 @@
 pub mod Constant
 pub mod Questions
-pub mod Remembered
 pub mod Sound

@@ -8,7 +8,7 @@ mod recorder;
 mod remembered;
 mod run;
 
-pub use cached::CachedTable;
+pub use cached::Cached;
 pub use constant::Constant;
 pub use questions::Questions;
 pub use recorder::Recorder;

@@ -1,25 +1,25 @@
 // The questions that a source was asked, in their order.
-ghost use Rattle.std.specs.Prelude.{◌≡◌, true, false, [], MatchOption};
+ghost use Rattle.std.specs.Prelude.{◌≡◌, [], Ok, MatchResult};
 ghost use Rattle.outside.specs.Questions.{Noted};
 
 use calendar::Stamp;
-use std::alloc::Global;
+use std::alloc::{AllocError, Global};
 
 #[derive(Drop)]
 pub struct Questions {
     stamps: Vec<Stamp>,
-    // there was no memory for one, and none is noted since
-    lost: bool,
+    // an error where there was no memory for one: none is noted since
+    noted: Result<(), AllocError>,
 }
 
 impl Questions {
     // None yet.
     pub fn none(heap: Global) -> Questions
-        ensures answer { (result.stamps.items ≡ []) × (result.lost ≡ false) }
+        ensures answer { (result.stamps.items ≡ []) × (result.noted ≡ Ok tt) }
     {
         Questions {
             stamps: Vec::new(heap),
-            lost: false,
+            noted: Ok(()),
         }
     }
 
@@ -27,18 +27,16 @@ impl Questions {
     pub fn note(&mut self, at: Stamp)
         ensures answer { Noted self.old at self.new }
     {
-        if !self.lost {
-            self.lost = self.stamps.push(at).is_err();
+        if self.noted.is_ok() {
+            self.noted = self.stamps.push(at).map_err(AllocError::from);
         }
     }
 
-    // All of them, in the order of asking; none where one was lost.
-    pub fn all(&self) -> Option<&[Stamp]>
-        ensures answer { MatchOption result (self.now.lost ≡ true) (λ all. (self.now.lost ≡ false) × (all.now ≡ self.now.stamps.items)) }
+    // All of them, in the order of asking; the error where one was lost.
+    pub fn all(&self) -> Result<&[Stamp], AllocError>
+        ensures answer { MatchResult result (λ all. (self.now.noted ≡ Ok tt) × (all.now ≡ self.now.stamps.items)) (λ e. self.now.noted ≡ Err e) }
     {
-        if self.lost {
-            return None;
-        }
-        Some(self.stamps.as_slice())
+        self.noted?;
+        Ok(self.stamps.as_slice())
     }
 }

@@ -1,43 +1,35 @@
 // Piles of sources, of the library's makes and of others.
-use crate::{CachedTable, Constant, Questions, Recorder, ask_each};
+use crate::{Cached, Constant, Questions, Recorder, ask_each};
 use calendar::Stamp;
 use market::PriceList;
 use std::test::Fail;
 use tariffs::{LowerOf, PriceSource, SourceFault, ZoneTariff};
 
-// A price, or cause and depth behind a zero.
-type Answer = (u32, u8, u8);
+// A price, or the cause and the depth of a fault.
+type Answer = Result<u32, (u8, u8)>;
 
 fn shown(answer: Result<u32, SourceFault>) -> Answer {
-    match answer {
-        Ok(price) => (price, 0, 0),
-        Err(fault) => (0, fault.cause, fault.depth),
-    }
+    answer.map_err(|fault| (fault.cause, fault.depth))
 }
 
 #[derive(Clone, Copy, Debug)]
 struct NoSuchAnswer;
 
-// The source that always gives such an answer; a fault where the cause is not 0.
+// The source that always gives such an answer.
 fn always(answer: Answer) -> Result<Constant, NoSuchAnswer> {
-    let (points, cause, depth) = answer;
-    let constant = if cause == 0 {
-        Constant::of_price(points)
-    } else {
-        Constant::of_fault(SourceFault { cause, depth })
-    };
-    constant.ok_or(NoSuchAnswer)
+    let answer = answer.map_err(|(cause, depth)| SourceFault { cause, depth });
+    Constant::new(answer).ok_or(NoSuchAnswer)
 }
 
 // what may be a constant
 const ALLOWED: [(Answer, bool); 7] = [
-    ((150_000_000, 0, 0), true),
-    ((150_000_001, 0, 0), false),
-    ((u32::MAX, 0, 0), false),
-    ((0, 1, 0), true),
-    ((0, 255, 15), true),
-    ((0, 255, 16), false),
-    ((0, 1, 255), false),
+    (Ok(150_000_000), true),
+    (Ok(150_000_001), false),
+    (Ok(u32::MAX), false),
+    (Err((1, 0)), true),
+    (Err((255, 15)), true),
+    (Err((255, 16)), false),
+    (Err((1, 255)), false),
 ];
 
 #[test]
@@ -53,31 +45,31 @@ fn a_constant_answers_what_a_source_may(rt: HostRuntime) -> Result<(), Fail> {
             Err(_) => assert!(rt; !allowed),
         }
     }
-    Ok(assert!(rt; Constant::of_fault(SourceFault { cause: 0, depth: 0 }).is_none()))
+    Ok(assert!(rt; always(Err((0, 0))).is_err()))
 }
 
 // first, second, the lower of both, and that through one lower-of more
 const PAIRS: [(Answer, Answer, Answer, Answer); 11] = [
-    ((5, 0, 0), (7, 0, 0), (5, 0, 0), (5, 0, 0)),
-    ((7, 0, 0), (5, 0, 0), (5, 0, 0), (5, 0, 0)),
-    ((6, 0, 0), (6, 0, 0), (6, 0, 0), (6, 0, 0)),
-    ((0, 0, 0), (150_000_000, 0, 0), (0, 0, 0), (0, 0, 0)),
+    (Ok(5), Ok(7), Ok(5), Ok(5)),
+    (Ok(7), Ok(5), Ok(5), Ok(5)),
+    (Ok(6), Ok(6), Ok(6), Ok(6)),
+    (Ok(0), Ok(150_000_000), Ok(0), Ok(0)),
     // both faulty: the first's
-    ((0, 9, 2), (0, 8, 5), (0, 9, 3), (0, 9, 4)),
+    (Err((9, 2)), Err((8, 5)), Err((9, 3)), Err((9, 4))),
     // one faulty: that one's, and no price
-    ((0, 9, 0), (5, 0, 0), (0, 9, 1), (0, 9, 2)),
-    ((5, 0, 0), (0, 8, 3), (0, 8, 4), (0, 8, 5)),
+    (Err((9, 0)), Ok(5), Err((9, 1)), Err((9, 2))),
+    (Ok(5), Err((8, 3)), Err((8, 4)), Err((8, 5))),
     // the depth rises to 15 and stays
-    ((0, 255, 13), (5, 0, 0), (0, 255, 14), (0, 255, 15)),
-    ((0, 1, 14), (5, 0, 0), (0, 1, 15), (0, 1, 15)),
-    ((0, 1, 15), (5, 0, 0), (0, 1, 15), (0, 1, 15)),
-    ((5, 0, 0), (0, 1, 15), (0, 1, 15), (0, 1, 15)),
+    (Err((255, 13)), Ok(5), Err((255, 14)), Err((255, 15))),
+    (Err((1, 14)), Ok(5), Err((1, 15)), Err((1, 15))),
+    (Err((1, 15)), Ok(5), Err((1, 15)), Err((1, 15))),
+    (Ok(5), Err((1, 15)), Err((1, 15)), Err((1, 15))),
 ];
 
 #[test]
 fn the_lower_of_two(rt: HostRuntime) -> Result<(), Fail> {
     let at = Stamp::new(2026, 1, 1, 0)?;
-    let dear = always((150_000_000, 0, 0))?;
+    let dear = always(Ok(150_000_000))?;
     for (first, second, once, twice) in PAIRS {
         let (first, second) = (always(first)?, always(second)?);
         let mut lower = LowerOf { first, second };
@@ -99,11 +91,11 @@ fn the_lower_of_two(rt: HostRuntime) -> Result<(), Fail> {
 
 // the four sources of a pile three deep, the first at the bottom, and the answer
 const PILES: [([Answer; 4], Answer); 5] = [
-    ([(4, 0, 0), (3, 0, 0), (2, 0, 0), (9, 0, 0)], (2, 0, 0)),
-    ([(0, 7, 0), (3, 0, 0), (2, 0, 0), (9, 0, 0)], (0, 7, 3)),
-    ([(4, 0, 0), (0, 6, 0), (2, 0, 0), (9, 0, 0)], (0, 6, 3)),
-    ([(4, 0, 0), (3, 0, 0), (0, 5, 0), (0, 9, 9)], (0, 5, 2)),
-    ([(4, 0, 0), (3, 0, 0), (2, 0, 0), (0, 4, 0)], (0, 4, 1)),
+    ([Ok(4), Ok(3), Ok(2), Ok(9)], Ok(2)),
+    ([Err((7, 0)), Ok(3), Ok(2), Ok(9)], Err((7, 3))),
+    ([Ok(4), Err((6, 0)), Ok(2), Ok(9)], Err((6, 3))),
+    ([Ok(4), Ok(3), Err((5, 0)), Err((9, 9))], Err((5, 2))),
+    ([Ok(4), Ok(3), Ok(2), Err((4, 0))], Err((4, 1))),
 ];
 
 #[test]
@@ -126,43 +118,32 @@ fn a_pile_three_deep(rt: HostRuntime) -> Result<(), Fail> {
     Ok(())
 }
 
-// Whether just these questions were asked, in this order.
-fn same(questions: &Questions, expected: &[Stamp]) -> bool {
-    match questions.all() {
-        Some(all) => all == expected,
-        None => false,
-    }
-}
-
 // day and hour of January 2026 in the order of asking, the answer, and whether the second source is asked
 const QUESTIONS: [(u8, u8, Answer, bool); 7] = [
-    (1, 8, (5_000_000, 0, 0), true),
-    (1, 8, (5_000_000, 0, 0), true),
-    (1, 6, (1_728_000, 0, 0), true),
-    (2, 0, (0, 2, 1), false),
-    (2, 0, (0, 2, 1), false),
-    (2, 1, (1_728_000, 0, 0), true),
-    (1, 8, (5_000_000, 0, 0), true),
+    (1, 8, Ok(5_000_000), true),
+    (1, 8, Ok(5_000_000), true),
+    (1, 6, Ok(1_728_000), true),
+    (2, 0, Err((2, 1)), false),
+    (2, 0, Err((2, 1)), false),
+    (2, 1, Ok(1_728_000), true),
+    (1, 8, Ok(5_000_000), true),
 ];
 
 #[test]
 fn a_cache_and_recorders_through_a_lower_of(rt: HostRuntime) -> Result<(), Fail> {
     let mut prices = [5_000_000u32; 744];
+    // the mark of a missing price, as the format writes it
     prices[24] = 0xffff_ffff;
     let list = PriceList {
         year: 2026,
         month: 1,
         prices: &prices,
     };
-    let Ok(checked) = list.check() else {
-        return Err(Fail::new("refused"));
-    };
-    let Ok(tariff) = ZoneTariff::new(3, 432_000) else {
-        return Err(Fail::new("not allowed"));
-    };
+    let checked = list.check()?;
+    let tariff = ZoneTariff::new(3, 432_000)?;
     let mut lower = LowerOf {
         first: Recorder {
-            source: CachedTable::new(checked.table()),
+            source: Cached::new(checked.table()),
             questions: Questions::none(rt.alloc()),
         },
         second: Recorder {
@@ -188,7 +169,7 @@ fn a_cache_and_recorders_through_a_lower_of(rt: HostRuntime) -> Result<(), Fail>
         first: table,
         second: tariff,
     } = lower;
-    assert!(rt; same(&table.questions, first.as_slice()));
-    assert!(rt; same(&tariff.questions, second.as_slice()));
+    assert!(rt; table.questions.all()? == first.as_slice());
+    assert!(rt; tariff.questions.all()? == second.as_slice());
     Ok(())
 }
