@@ -13,12 +13,9 @@ pub fn hour_row(tariff: ZoneTariff, at: Stamp) -> ZoneRow
     ensures price { result.points ≡ tariff.base.kopiykas_per_mwh * coefficient tariff.mode (zone_hour at) }
 {
     let mut source = tariff;
-    let Ok(points) = source.price(at) else {
-        unreachable()
-    };
     ZoneRow {
         hour: at.hour,
         coefficient: tariff.mode.coefficient(at),
-        points,
+        points: source.price(at).unwrap(),
     }
 }

@@ -26,9 +26,7 @@ pub fn held(heap: Global, month: Month, day: &[u32]) -> Result<Vec<u32>, AllocEr
 {
     let mut prices = Vec::new(heap);
     for index in 0..month.hours() {
-        let Some(at) = month.stamp_at(index) else {
-            unreachable()
-        };
+        let at = month.stamp_at(index).unwrap();
         prices.push(at_hour(day, at))?;
     }
     Ok(prices)
