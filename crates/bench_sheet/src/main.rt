@@ -28,6 +28,7 @@ use typed::Typed;
 // The twelve numbers of standard input, or the line that stops them.
 fn typed_in(rt: &HostRuntime) -> anyhow::Result<[u32; 12]> {
     let mut typed = Typed::none();
+    // the message of too few numbers names the last line that was read
     let mut last = 0;
     for (line, text) in (1u64..).zip(rt.lines(rt.alloc())) {
         let text = text.map_err(|error| anyhow!("line {line}: {error}"))?;
