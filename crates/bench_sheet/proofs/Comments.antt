@@ -1,24 +1,27 @@
--- A line is walked up to its comment. Assumes nothing.
-use Rattle.std.proofs.Common.{◌≡◌, ℕ, ◌+◌, ◌<◌, ◌≤◌, cond, eqb, List, [], ◌∷◌, ◌++◌, length, get_or, take, drop, sym, ap, ◌∙◌, append_assoc, append-nil}
-use Rattle.std.proofs.lemmas.List.{take_more, take_all, at_drop_more, at_drop_all}
-use Rattle.std.proofs.lemmas.Bool.{cond-true, cond-false, eq-eqb, ne_eqb}
+-- What stands before the first # of a line. Assumes nothing.
+use Rattle.std.proofs.Common.{◌≡◌, ℕ, ◌<◌, ◌≤◌, ◌==◌, cond, not, nat_lt, Bool, true, false, List, [], ◌∷◌, length, take, Some, None, sym, refl, ap, ◌∙◌, arith, ⊎_elim}
+use Rattle.std.proofs.lemmas.Bool.{cases_lt, lt-ltb, le-ltb}
+use Rattle.std.proofs.lemmas.List.{take_all}
+use Rattle.std.proofs.lemmas.List.Sums.{take_while-cons}
+use Rattle.std.specs.List.{position, position_or_len, take_while}
+use Rattle.std.specs.Option.{unwrap_or}
 use Rattle.bench_sheet.specs.Reading.{uncommented}
 
-module _ (line : List ℕ) (i : ℕ) (inv : take i line ++ uncommented (drop i line) ≡ uncommented line) where
-  opened : i < length line → uncommented (drop i line) ≡ cond (eqb (get_or line i 0) 35) [] (get_or line i 0 ∷ uncommented (drop (i + 1) line))
-  opened l = at_drop_more uncommented line i 0 l
+cond-not : {A : Type 0} (t : Bool) (x y : A) → cond (not t) x y ≡ cond t y x
+cond-not true x y = refl
+cond-not false x y = refl
 
-  pub comment_more : i < length line → (get_or line i 0 ≡ 35 → ⊥) → take (i + 1) line ++ uncommented (drop (i + 1) line) ≡ uncommented line
-  comment_more l other =
-      ap (λ xs. xs ++ uncommented (drop (i + 1) line)) (take_more line i 0 l)
-      ∙ append_assoc (take i line) (get_or line i 0 ∷ []) (uncommented (drop (i + 1) line))
-      ∙ ap (λ xs. take i line ++ xs) (sym (opened l ∙ cond-false _ _ _ (ne_eqb (get_or line i 0) 35 other))) ∙ inv
+before_hash : (line : List ℕ) → take_while (λ b. not (b == 35)) line ≡ uncommented line
+before_hash [] = refl
+before_hash (b ∷ line) =
+    take_while-cons (λ c. not (c == 35)) b line ∙ cond-not (b == 35) (b ∷ take_while (λ c. not (c == 35)) line) []
+    ∙ ap (λ rest. cond (b == 35) [] (b ∷ rest)) (before_hash line)
 
-  pub comment_here : i < length line → get_or line i 0 ≡ 35 → take i line ≡ uncommented line
-  comment_here l here =
-      sym (append-nil (take i line)) ∙ ap (λ xs. take i line ++ xs) (sym (opened l ∙ cond-true _ _ _ (eq-eqb (get_or line i 0) 35 here))) ∙ inv
+up_to : (k : ℕ) (line : List ℕ) → take (unwrap_or (cond (nat_lt k (length line)) (Some k) None) (length line)) line ≡ take k line
+up_to k line = ⊎_elim (λ (found : k < length line). rw (lt-ltb k (length line) found))
+    (λ (past : length line ≤ k). rw (le-ltb k (length line) past) (take_all (length line) line (omega arith) ∙ sym (take_all k line past)))
+    (cases_lt k (length line))
 
-  pub comment_none : length line ≤ i → line ≡ uncommented line
-  comment_none past =
-      sym (append-nil line) ∙ ap (λ xs. xs ++ []) (sym (take_all i line past)) ∙ ap (λ xs. take i line ++ xs) (sym (at_drop_all uncommented line i past))
-      ∙ inv
+-- the part up to the first #, or to the end
+pub up_to_hash : (line : List ℕ) → take (unwrap_or (position (λ b. b == 35) line) (length line)) line ≡ uncommented line
+up_to_hash line = up_to (position_or_len (λ b. b == 35) line) line ∙ before_hash line

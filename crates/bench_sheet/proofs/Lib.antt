@@ -1,4 +1,5 @@
+pub mod ColumnTexts
 pub mod Comments
 pub mod HeldPrices
-pub mod Numbers
+pub mod Options
 pub mod ReadBack

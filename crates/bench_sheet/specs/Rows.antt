@@ -7,9 +7,13 @@ use Rattle.site.specs.Setpoint.{setpoint_number, name}
 use Rattle.site.specs.declared.fault.SetpointFault.{SetpointFault}
 use Rattle.site.specs.declared.setpoint.Setpoint.{Setpoint}
 use Rattle.site.specs.declared.setpoint.Setpoint.TheVariants.{AccountNumber, ContractedPower, InstalledPower, ZoneMode, PurchaseBase, FreeSalePrice, SaleRule, Distribution, Transmission, StorageMetered, FirstMonth, PayoutFloor}
+use Rattle.tariffs.specs.Coefficient.{tenths_text}
+use Rattle.tariffs.specs.Faults.{words_source}
 use Rattle.tariffs.specs.declared.fault.SourceFault.{SourceFault}
 use Rattle.bench_sheet.specs.declared.fault.LineFault.{LineFault}
 use Rattle.bench_sheet.specs.declared.fault.LineFault.TheVariants.{NotADigit, TooLarge, TooMany}
+use Rattle.bench_sheet.specs.declared.fault.SheetFault.{SheetFault}
+use Rattle.bench_sheet.specs.declared.fault.SheetFault.TheVariants.{Unreadable, TooFew}
 use Rattle.bench_sheet.specs.Columns.{left, right}
 
 -- what a setpoint is measured in
@@ -45,6 +49,11 @@ line_row line TooMany = codes "line " ++ (decimal line ++ codes ": more than twe
 abbrev pub count_row : ℕ → ℕ → List ℕ
 count_row line count = codes "after line " ++ (decimal line ++ (codes ": only " ++ (decimal count ++ codes " of twelve numbers")))
 
+-- why a sheet has no twelve numbers to give
+abbrev pub fault_row : SheetFault → List ℕ
+fault_row (Unreadable line fault) = line_row line fault
+fault_row (TooFew line count) = count_row line count
+
 -- a point is a ten-thousandth of a kopiyka per kWh: four decimals
 abbrev pub per_kwh : ℕ → List ℕ
 per_kwh points =
@@ -58,10 +67,6 @@ two_digits n = decimal (n / 10) ++ decimal (n % 10)
 abbrev pub hour_start : ℕ → List ℕ
 hour_start hour = decimal (hour / 10) ++ (decimal (hour % 10) ++ codes ":00")
 
--- tenths with a decimal
-abbrev pub tenths_text : ℕ → List ℕ
-tenths_text n = decimal (n / 10) ++ (codes "." ++ decimal (n % 10))
-
 -- the hour's start, the coefficient, the price in kopiykas per kWh and in points
 abbrev pub zone_row : ℕ → ℕ → ℕ → List ℕ
 zone_row hour tenths points = codes "  " ++ (hour_start hour ++ (right 14 (tenths_text tenths) ++ (right 18 (per_kwh points) ++ right 13 (decimal points))))
@@ -69,12 +74,7 @@ zone_row hour tenths points = codes "  " ++ (hour_start hour ++ (right 14 (tenth
 -- the answer of a source: a price in kopiykas per kWh, or the fault's cause and depth
 abbrev pub answer_text : Result ℕ SourceFault → List ℕ
 answer_text (Ok points) = per_kwh points
-answer_text (Err fault) = codes "cause " ++ (decimal fault.cause ++ (codes ", depth " ++ decimal fault.depth))
-
--- the hour's start, and the answers for bought energy, for sold energy under the rules 1 to 3, and for excess
-abbrev pub roles_row : ℕ → (bought first second third excess : Result ℕ SourceFault) → List ℕ
-roles_row hour bought first second third excess =
-    codes "  " ++ (hour_start hour ++ (right 13 (answer_text bought) ++ (right 13 (answer_text first) ++ (right 13 (answer_text second) ++ (right 13 (answer_text third) ++ right 13 (answer_text excess))))))
+answer_text (Err fault) = words_source fault
 
 -- a date and the start of an hour
 abbrev pub stamp_text : Stamp → List ℕ

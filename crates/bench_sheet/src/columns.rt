@@ -1,31 +1,25 @@
 // Text in columns.
-ghost use Rattle.std.specs.Prelude.{◌≡◌, replicate, IfOk, string_bytes};
-ghost use Rattle.bench_sheet.specs.Columns.{left as left_of, right as right_of};
+ghost use Rattle.std.specs.Fmt.{styled_text};
+ghost use Rattle.std.specs.Option.{option_map};
 
-use std::alloc::{AllocError, Global};
+use arrayvec::ArrayString;
+use std::fmt;
+use std::fmt::Write;
 
-fn blanks(heap: Global, count: usize) -> Result<String, AllocError>
-    ensures { IfOk result (λ t. string_bytes t ≡ replicate count 32) }
-{
-    let mut text = String::new(heap);
-    for _filled in 0..count {
-        text.push_str(" ")?;
+// What a value prints, as one text, which a width such as `{:>13}` pads.
+// A `Display` that is written in pieces passes its width by, so the text is made first.
+// The longest text of the sheet that is padded has 20 bytes; one that had no room here would be an error, and never cut.
+#[derive(Clone, Copy)]
+pub struct Column<T>(pub T);
+
+impl<T: fmt::Display> fmt::Display for Column<T> {
+    ghost output = { λ c. T.output c.0 };
+
+    ghost styled_output = { λ c s. option_map (styled_text s) (T.output c.0) };
+
+    fn fmt<W: fmt::Write>(&self, f: &mut fmt::Formatter<W>) -> fmt::Result {
+        let mut text = ArrayString::<32>::new();
+        write!(text, "{}", self.0)?;
+        f.pad(text.as_str())
     }
-    Ok(text)
-}
-
-// The text at the left of a column.
-pub fn left(heap: Global, width: usize, text: &str) -> Result<String, AllocError>
-    ensures { IfOk result (λ t. string_bytes t ≡ left_of width text.now) }
-{
-    let blanks = blanks(heap, width.saturating_sub(text.len()))?;
-    format!(in heap; "{text}{blanks}")
-}
-
-// The text at the right of a column.
-pub fn right(heap: Global, width: usize, text: &str) -> Result<String, AllocError>
-    ensures { IfOk result (λ t. string_bytes t ≡ right_of width text.now) }
-{
-    let blanks = blanks(heap, width.saturating_sub(text.len()))?;
-    format!(in heap; "{blanks}{text}")
 }

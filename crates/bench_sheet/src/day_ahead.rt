@@ -3,10 +3,8 @@ ghost use Rattle.std.specs.Prelude.{◌≡◌, IfOk};
 ghost use Rattle.bench_sheet.specs.DayAhead.{held as held_for, price_of};
 
 use calendar::{Month, Stamp};
+use market::MISSING_PRICE as MISSING;
 use std::alloc::{AllocError, Global};
-
-// What stands for a missing price.
-const MISSING: u32 = 0xffff_ffff;
 
 // Points, from midnight on; the price of 12:00 is missing.
 pub const DAY: [u32; 24] = [
@@ -19,10 +17,7 @@ pub const DAY: [u32; 24] = [
 fn at_hour(day: &[u32], at: Stamp) -> u32
     ensures { result ≡ price_of day.now at }
 {
-    match day.get(usize::from(at.hour)) {
-        Some(price) => *price,
-        None => MISSING,
-    }
+    day.get(usize::from(at.hour)).copied().unwrap_or(MISSING)
 }
 
 // A month each day of which has these prices.
@@ -30,10 +25,9 @@ pub fn held(heap: Global, month: Month, day: &[u32]) -> Result<Vec<u32>, AllocEr
     ensures { IfOk result (λ v. v.items ≡ held_for day.now month) }
 {
     let mut prices = Vec::new(heap);
+    // by index, since a month gives an hour by its index alone
     for index in 0..month.hours() {
-        let Some(at) = month.stamp_at(index) else {
-            unreachable()
-        };
+        let at = month.stamp_at(index).unwrap();
         prices.push(at_hour(day, at))?;
     }
     Ok(prices)

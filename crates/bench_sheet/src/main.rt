@@ -7,15 +7,20 @@ mod day_ahead;
 mod fault;
 mod roles;
 mod rows;
+mod texts;
 mod typed;
 
-use anyhow::anyhow;
-use calendar::Month;
+use anyhow::{anyhow, bail};
+use calendar::{Month, Stamp};
+use fault::SheetFault;
 use figures::figures_that_hold;
 use market::{DayAheadTable, PriceList};
 use pricing::StandardChoice;
-use site::{Setpoint, SetpointFault, Setpoints};
+use rows::{AskedRow, RefusalRow, SetpointRow};
+use site::{Setpoint, Setpoints};
+use std::fmt::Display;
 use std::io;
+use std::ops::Range;
 use std::process::ExitCode;
 use tariffs::{PriceSource, ZoneTariff};
 use typed::Typed;
@@ -23,96 +28,70 @@ use typed::Typed;
 // The twelve numbers of standard input, or the line that stops them.
 fn typed_in(rt: &HostRuntime) -> anyhow::Result<[u32; 12]> {
     let mut typed = Typed::none();
-    let mut number = 0u64;
-    for line in rt.lines(rt.alloc()) {
-        number = number.saturating_add(1);
-        let line = match line {
-            Ok(line) => line,
-            Err(error) => return Err(anyhow!(format!(in rt.alloc(); "line {number}: {error}")?)),
-        };
-        typed = match typed.read_line(line.as_bytes()) {
-            Ok(more) => more,
-            Err(fault) => return Err(anyhow!(rows::line_row(rt.alloc(), number, fault)?)),
-        };
+    // the message of too few numbers names the last line that was read
+    let mut last = 0;
+    for (line, text) in (1u64..).zip(rt.lines(rt.alloc())) {
+        let text = text.map_err(|error| anyhow!("line {line}: {error}"))?;
+        typed = typed
+            .read_line(text.as_bytes())
+            .map_err(|fault| SheetFault::Unreadable { line, fault })?;
+        last = line;
     }
-    match typed.twelve() {
-        Some(numbers) => Ok(numbers),
-        None => Err(anyhow!(rows::count_row(rt.alloc(), number, typed.count())?)),
-    }
+    let numbers = typed.twelve().ok_or(SheetFault::TooFew {
+        line: last,
+        count: typed.count(),
+    })?;
+    Ok(numbers)
 }
 
-// The setpoints as they are held.
-fn show_setpoints(rt: &HostRuntime, setpoints: &Setpoints) -> io::Result<()> {
-    println!(rt; "Setpoints")?;
-    for setpoint in Setpoint::all() {
-        rt.println(rows::setpoint_row(rt.alloc(), setpoint, setpoints.value(setpoint))?)?;
-    }
-    println!(rt; "accepted")
-}
-
-// The numbers as they were typed in, and why they are refused.
-fn show_refusal(rt: &HostRuntime, numbers: [u32; 12], fault: SetpointFault) -> io::Result<()> {
-    println!(rt; "Setpoints")?;
-    for (setpoint, value) in Setpoint::all().iter().zip(numbers.iter()) {
-        rt.println(rows::setpoint_row(rt.alloc(), *setpoint, *value)?)?;
-    }
-    rt.println(rows::refusal_row(rt.alloc(), fault)?)
-}
-
-// The hours from one index of the month to another.
-fn step(
+// The twelve setpoints with their numbers, and the verdict on them.
+fn show_setpoints<V: Display + Drop>(
     rt: &HostRuntime,
-    tariff: ZoneTariff,
-    month: Month,
-    from: usize,
-    to: usize,
+    numbers: [u32; 12],
+    verdict: V,
 ) -> io::Result<()> {
-    for index in from..to {
-        if let Some(at) = month.stamp_at(index) {
-            rt.println(clock::hour_row(rt.alloc(), tariff, at)?)?;
-        }
+    println!(rt; "Setpoints")?;
+    for (setpoint, value) in Setpoint::all().into_iter().zip(numbers) {
+        rt.println(SetpointRow { setpoint, value })?;
+    }
+    rt.println(verdict)
+}
+
+// A row for each hour of a month whose index lies in a range.
+fn show_hours<R: Display + Drop, F: Fn(Stamp) -> R>(
+    rt: &HostRuntime,
+    month: Month,
+    indices: Range<usize>,
+    row: F,
+) -> io::Result<()>
+    requires { F.IsAlwaysCallable row }
+{
+    for at in indices.filter_map(|index| month.stamp_at(index)) {
+        rt.println(row(at))?;
     }
     Ok(())
 }
 
 // The zone clock over 07:00 and over 23:00, from the first day of the first month on.
 fn show_zone_clock(rt: &HostRuntime, setpoints: &Setpoints) -> io::Result<()> {
+    let month = setpoints.first_month;
     let tariff = ZoneTariff {
         mode: setpoints.zone_mode,
         base: setpoints.purchase_base,
     };
     println!(rt; "Zone clock, purchase tariff")?;
     println!(rt; "  hour    coefficient  kopiykas per kWh       points")?;
-    step(rt, tariff, setpoints.first_month, 6, 9)?;
+    show_hours(rt, month, 6..9, |at| clock::hour_row(tariff, at))?;
     println!(rt)?;
-    step(rt, tariff, setpoints.first_month, 22, 25)
-}
-
-// The prices by role from one index of the month to another.
-fn show_roles(
-    rt: &HostRuntime,
-    setpoints: &Setpoints,
-    table: DayAheadTable,
-    from: usize,
-    to: usize,
-) -> io::Result<()> {
-    for index in from..to {
-        if let Some(at) = setpoints.first_month.stamp_at(index) {
-            rt.println(roles::priced(rt.alloc(), setpoints, table, at)?)?;
-        }
-    }
-    Ok(())
+    show_hours(rt, month, 22..25, |at| clock::hour_row(tariff, at))
 }
 
 // A month next to another: the one after it, or the one before the last.
 fn neighbour(month: Month) -> Month {
-    match month.next() {
-        Some(next) => next,
-        None => Month {
-            year: 2099,
-            month: 11,
-        },
-    }
+    month.next().unwrap_or(Month {
+        year: 2099,
+        month: 11,
+    })
 }
 
 // Three hours without a price: outside the table's month, at a missing price, and the same through a lower-of.
@@ -120,16 +99,23 @@ fn show_faults(rt: &HostRuntime, setpoints: &Setpoints, table: DayAheadTable) ->
     let mut table = table;
     let mut choice = StandardChoice::new(setpoints, table);
     if let Some(at) = neighbour(setpoints.first_month).stamp_at(0) {
-        rt.println(rows::asked_row(rt.alloc(), "outside the table's month", at, table.price(at))?)?;
+        rt.println(AskedRow {
+            what: "outside the table's month",
+            at,
+            answer: table.price(at),
+        })?;
     }
     if let Some(at) = setpoints.first_month.stamp_at(12) {
-        rt.println(rows::asked_row(rt.alloc(), "a missing price", at, table.price(at))?)?;
-        rt.println(rows::asked_row(
-            rt.alloc(),
-            "the same, through a lower-of",
+        rt.println(AskedRow {
+            what: "a missing price",
             at,
-            choice.excess.price(at),
-        )?)?;
+            answer: table.price(at),
+        })?;
+        rt.println(AskedRow {
+            what: "the same, through a lower-of",
+            at,
+            answer: choice.excess.price(at),
+        })?;
     }
     Ok(())
 }
@@ -143,17 +129,15 @@ fn show_prices(rt: &HostRuntime, setpoints: &Setpoints) -> anyhow::Result<()> {
         month: month.month,
         prices: prices.as_slice(),
     };
-    let table = match list.check() {
-        Ok(checked) => checked.table(),
-        Err(fault) => return Err(anyhow!(format!(in rt.alloc();
-            "the day-ahead list is refused: {fault}"
-        )?)),
-    };
+    let table = list
+        .check()
+        .map_err(|fault| anyhow!("the day-ahead list is refused: {fault}"))?
+        .table();
     println!(rt; "Prices by role, kopiykas per kWh")?;
     println!(rt; "  hour      purchase  sale rule 1  sale rule 2  sale rule 3       excess")?;
-    show_roles(rt, setpoints, table, 6, 9)?;
+    show_hours(rt, month, 6..9, |at| roles::priced(setpoints, table, at))?;
     println!(rt)?;
-    show_roles(rt, setpoints, table, 22, 25)?;
+    show_hours(rt, month, 22..25, |at| roles::priced(setpoints, table, at))?;
     println!(rt)?;
     println!(rt; "No price")?;
     show_faults(rt, setpoints, table)?;
@@ -173,11 +157,13 @@ fn run(rt: &HostRuntime) -> anyhow::Result<()> {
     let setpoints = match Setpoints::check(numbers) {
         Ok(setpoints) => setpoints,
         Err(fault) => {
-            show_refusal(rt, numbers, fault)?;
-            return Err(anyhow!("the setpoints are refused"));
+            show_setpoints(rt, numbers, RefusalRow(fault))?;
+            bail!("the setpoints are refused");
         }
     };
-    show_setpoints(rt, &setpoints)?;
+    // the numbers as they are held
+    let held = Setpoint::all().map(|setpoint| setpoints.value(setpoint));
+    show_setpoints(rt, held, "accepted")?;
     println!(rt)?;
     show_zone_clock(rt, &setpoints)?;
     println!(rt)?;

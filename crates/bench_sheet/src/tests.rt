@@ -1,13 +1,16 @@
 // Lines of a sheet, and what is read of them.
+use crate::columns::Column;
 use crate::fault::LineFault;
+use crate::rows::AskedRow;
+use crate::texts::{Answer, PerKwh};
 use crate::typed::Typed;
-use crate::{day_ahead, roles, rows, show_prices};
+use crate::{day_ahead, roles, show_prices};
 use calendar::Stamp;
 use market::PriceList;
 use pricing::StandardChoice;
 use site::Setpoints;
 use std::test::Fail;
-use tariffs::PriceSource;
+use tariffs::{PriceSource, SourceFault};
 
 // How many numbers a line has, or why it cannot be read.
 fn count(line: &str) -> Result<usize, LineFault> {
@@ -29,10 +32,7 @@ const READ: [(&str, usize); 9] = [
 #[test]
 fn lines_that_are_read(rt: HostRuntime) -> Result<(), Fail> {
     for (line, expected) in READ {
-        match count(line) {
-            Ok(found) => assert_eq!(rt; found, expected),
-            Err(_) => return Err(Fail::new(line)),
-        }
+        assert_eq!(rt; count(line), Ok(expected));
     }
     Ok(())
 }
@@ -52,10 +52,7 @@ const UNREADABLE: [(&str, LineFault); 8] = [
 #[test]
 fn lines_that_are_not(rt: HostRuntime) -> Result<(), Fail> {
     for (line, expected) in UNREADABLE {
-        match count(line) {
-            Ok(_) => return Err(Fail::new(line)),
-            Err(fault) => assert!(rt; fault == expected),
-        }
+        assert_eq!(rt; count(line), Err(expected));
     }
     Ok(())
 }
@@ -77,18 +74,13 @@ fn a_sheet_of_several_lines_reads_as_typed(rt: HostRuntime) -> Result<(), Fail> 
     assert_eq!(rt; typed.count(), 11);
     assert!(rt; typed.twelve().is_none());
     typed = typed.read_line(b"10000")?;
-    match typed.twelve() {
-        Some(numbers) => {
-            assert!(rt;
-                numbers
-                    == [
-                        100245, 50000, 30000, 3, 432000, 300000, 2, 150000, 40000, 1, 202601, 10000,
-                    ]
-            );
-            Ok(())
-        },
-        None => Err(Fail::new("not twelve")),
-    }
+    assert_eq!(rt;
+        typed.twelve(),
+        Some([
+            100245, 50000, 30000, 3, 432000, 300000, 2, 150000, 40000, 1, 202601, 10000,
+        ])
+    );
+    Ok(())
 }
 
 // The setpoints of the committed sheet.
@@ -142,9 +134,7 @@ const UNPRICED: [(&str, &str); 3] = [
 
 #[test]
 fn prices_by_role_and_hours_with_no_price(rt: HostRuntime) -> Result<(), Fail> {
-    let Ok(setpoints) = Setpoints::check(SHEET) else {
-        return Err(Fail::new("refused"));
-    };
+    let setpoints = Setpoints::check(SHEET)?;
     let month = setpoints.first_month;
     let prices = day_ahead::held(rt.alloc(), month, &day_ahead::DAY)?;
     let list = PriceList {
@@ -152,15 +142,13 @@ fn prices_by_role_and_hours_with_no_price(rt: HostRuntime) -> Result<(), Fail> {
         month: month.month,
         prices: prices.as_slice(),
     };
-    let Ok(checked) = list.check() else {
-        return Err(Fail::new("no such list"));
-    };
+    let checked = list.check()?;
     for (index, line) in ROLES {
         let Some(at) = month.stamp_at(index) else {
             return Err(Fail::new("no such hour"));
         };
-        let row = roles::priced(rt.alloc(), &setpoints, checked.table(), at)?;
-        assert!(rt; row.as_str() == line);
+        let row = roles::priced(&setpoints, checked.table(), at);
+        assert_eq!(rt; row.to_string(rt.alloc())?.as_str(), line);
     }
     // the three questions with no price go to the table, and to the lower-of for excess energy
     let mut table = checked.table();
@@ -168,12 +156,34 @@ fn prices_by_role_and_hours_with_no_price(rt: HostRuntime) -> Result<(), Fail> {
     let [outside, missing, deeper] = UNPRICED;
     let after = Stamp::new(2026, 2, 1, 0)?;
     let noon = Stamp::new(2026, 1, 1, 12)?;
-    let row = rows::asked_row(rt.alloc(), outside.0, after, table.price(after))?;
-    assert!(rt; row.as_str() == outside.1);
-    let row = rows::asked_row(rt.alloc(), missing.0, noon, table.price(noon))?;
-    assert!(rt; row.as_str() == missing.1);
-    let row = rows::asked_row(rt.alloc(), deeper.0, noon, choice.excess.price(noon))?;
-    assert!(rt; row.as_str() == deeper.1);
+    let asked = [
+        (outside, after, table.price(after)),
+        (missing, noon, table.price(noon)),
+        (deeper, noon, choice.excess.price(noon)),
+    ];
+    for ((what, line), at, answer) in asked {
+        let row = AskedRow { what, at, answer };
+        assert_eq!(rt; row.to_string(rt.alloc())?.as_str(), line);
+    }
     show_prices(&rt, &setpoints)?;
+    Ok(())
+}
+
+// No clause says that a text has room in its column: these are the longest.
+#[test]
+fn the_longest_texts_have_room_in_a_column(rt: HostRuntime) -> Result<(), Fail> {
+    let fault = Column(Answer(Err(SourceFault {
+        cause: 255,
+        depth: 255,
+    })));
+    assert_eq!(rt;
+        format!(in rt.alloc(); "{fault:>24}")?.as_str(),
+        "    cause 255, depth 255"
+    );
+    let price = Column(PerKwh(u32::MAX));
+    assert_eq!(rt;
+        format!(in rt.alloc(); "{price:>13}")?.as_str(),
+        "  429496.7295"
+    );
     Ok(())
 }

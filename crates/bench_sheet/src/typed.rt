@@ -1,11 +1,9 @@
 // The numbers that were typed in so far, at most twelve.
-ghost use Rattle.std.specs.Prelude.{◌≤◌};
-
 mod reading;
 
-#[derive(Clone, Copy)]
+use arrayvec::ArrayVec;
+
+#[derive(Drop)]
 pub struct Typed {
-    numbers: [u32; 12],
-    count: usize,
-    ghost few: { count ≤ 12 },
+    numbers: ArrayVec<u32, 12>,
 }

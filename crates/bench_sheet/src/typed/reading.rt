@@ -1,28 +1,27 @@
 // Numbers are read off a line of text: digits, with blanks between; a # starts a comment.
-ghost use Rattle.std.specs.Prelude.{◌≡◌, ◌+◌, ◌<◌, ◌≤◌, [], length, None, Ok, Err, MatchOption, MatchResult};
+ghost use Rattle.std.specs.Prelude.{◌≡◌, ◌+◌, ◌<◌, ◌≤◌, ◌==◌, [], length, position, IfSome, None, Ok, Err, MatchOption, MatchResult};
 ghost use Rattle.bench_sheet.specs.Scanning.{Steps};
 ghost use Rattle.bench_sheet.specs.Reading.{ended as ended_by, entered, grown as grown_by, uncommented, Reads, ReadsBack};
 
 use super::Typed;
 use crate::fault::LineFault;
+use arrayvec::ArrayVec;
 
-// What was read of a line: the numbers, and one that is begun.
-#[derive(Clone, Copy)]
-struct Scan {
-    typed: Typed,
-    begun: Option<u32>,
+// Where the comment of a line starts, if it has one.
+fn comment_start(line: &[u8]) -> Option<usize>
+    ensures first { result ≡ position (λ b. b == 35) line.now }
+    ensures bound { IfSome result (λ start. start < length line.now) }
+{
+    line.iter().position(|byte| *byte == b'#')
 }
 
 // The part of a line before its comment.
+#[tactic(auto, using(crate::proofs::Comments::up_to_hash))]
 fn before_comment(line: &[u8]) -> &[u8]
     ensures { result.now ≡ uncommented line.now }
 {
-    for (i, byte) in line.iter().enumerate() {
-        if *byte == b'#' {
-            return &line[0..i];
-        }
-    }
-    line
+    let end = comment_start(line).unwrap_or(line.len());
+    &line[..end]
 }
 
 // A digit behind those of a number that is begun.
@@ -30,46 +29,16 @@ fn grown(begun: Option<u32>, byte: u8, column: usize) -> Result<u32, LineFault>
     requires { 48 ≤ byte }
     ensures { MatchResult result (λ n. n ≡ grown_by begun byte) (λ e. (4294967296 ≤ grown_by begun byte) × (e ≡ LineFault.TooLarge column)) }
 {
-    let front = match begun {
-        Some(number) => u64::from(number) * 10,
-        None => 0,
-    };
+    let front = begun.map_or(0, |number| u64::from(number) * 10);
     let number = front + u64::from(byte - b'0');
-    if number > 0xffff_ffff {
-        return Err(LineFault::TooLarge(column));
-    }
-    Ok(number as u32)
+    u32::try_from(number).map_err(|_| LineFault::TooLarge(column))
 }
 
-impl Typed {
-    // A sheet with nothing on it yet.
-    pub fn none() -> Typed
-        ensures answer { entered result ≡ [] }
-        ensures law { ReadsBack }
-    {
-        Typed {
-            numbers: [0; 12],
-            count: 0,
-        }
-    }
-
-    // The number that is begun, if one is, behind the others.
-    fn ended(self, begun: Option<u32>) -> Result<Typed, LineFault>
-        ensures { MatchResult result (λ t. ended_by (entered self) begun ≡ Ok (entered t)) (λ e. ended_by (entered self) begun ≡ Err e) }
-    {
-        let Some(number) = begun else {
-            return Ok(self);
-        };
-        if self.count >= 12 {
-            return Err(LineFault::TooMany);
-        }
-        let mut numbers = self.numbers;
-        numbers[self.count] = number;
-        Ok(Typed {
-            numbers,
-            count: self.count + 1,
-        })
-    }
+// What was read of a line: the numbers, and one that is begun.
+#[derive(Drop)]
+struct Scan {
+    typed: Typed,
+    begun: Option<u32>,
 }
 
 impl Scan {
@@ -79,8 +48,8 @@ impl Scan {
     {
         match byte {
             b'0'..=b'9' => Ok(Scan {
-                typed: self.typed,
                 begun: Some(grown(self.begun, byte, column)?),
+                typed: self.typed,
             }),
             b' ' | b'\t' | b'\r' => Ok(Scan {
                 typed: self.typed.ended(self.begun)?,
@@ -92,6 +61,17 @@ impl Scan {
 }
 
 impl Typed {
+    // A sheet with nothing on it yet.
+    #[tactic(auto, using(crate::proofs::ReadBack::reads_back))]
+    pub fn none() -> Typed
+        ensures answer { entered result ≡ [] }
+        ensures law { ReadsBack }
+    {
+        Typed {
+            numbers: ArrayVec::new(),
+        }
+    }
+
     // The numbers of one line more, behind those of the lines before it.
     pub fn read_line(self, line: &[u8]) -> Result<Typed, LineFault>
         ensures answer { Reads (entered self) line.now result }
@@ -100,28 +80,34 @@ impl Typed {
             typed: self,
             begun: None,
         };
-        for (i, byte) in before_comment(line).iter().enumerate() {
-            scan = scan.step(*byte, i + 1)?;
+        for (index, byte) in before_comment(line).iter().enumerate() {
+            scan = scan.step(*byte, index + 1)?;
         }
         scan.typed.ended(scan.begun)
     }
-}
 
-impl Typed {
-    // How many numbers were typed in.
-    pub fn count(self) -> usize
-        ensures answer { result ≡ length (entered self) }
+    // The number that is begun, if one is, behind the others.
+    fn ended(self, begun: Option<u32>) -> Result<Typed, LineFault>
+        ensures { MatchResult result (λ t. ended_by (entered self) begun ≡ Ok (entered t)) (λ e. ended_by (entered self) begun ≡ Err e) }
     {
-        self.count
+        let mut numbers = self.numbers;
+        if let Some(number) = begun {
+            numbers.try_push(number).map_err(|_| LineFault::TooMany)?;
+        }
+        Ok(Typed { numbers })
+    }
+
+    // How many numbers were typed in.
+    pub fn count(&self) -> usize
+        ensures answer { result ≡ length (entered self.now) }
+    {
+        self.numbers.len()
     }
 
     // All twelve, where there are twelve.
-    pub fn twelve(self) -> Option<[u32; 12]>
-        ensures answer { MatchOption result (length (entered self) < 12) (λ ns. ns ≡ entered self) }
+    pub fn twelve(&self) -> Option<[u32; 12]>
+        ensures answer { MatchOption result (length (entered self.now) < 12) (λ ns. ns ≡ entered self.now) }
     {
-        if self.count < 12 {
-            return None;
-        }
-        Some(self.numbers)
+        self.numbers.as_slice().try_into().ok()
     }
 }

@@ -1,4 +1,4 @@
-use Rattle.std.proofs.Common.{◌≤◌, [], ◌∷◌, ◌++◌, map, length, vec_items, ap, ◌∙◌, arith}
+use Rattle.std.proofs.Common.{◌≤◌, map, length, sym, ap, ◌∙◌, arith}
 use Rattle.std.proofs.lemmas.List.{take_all}
 use Rattle.calendar.specs.Hours.{hours}
 use Rattle.bench_sheet.specs.DayAhead.{price_of}
@@ -7,10 +7,9 @@ use Rattle.bench_sheet.proofs.day_ahead.held.Goals as goal
 
 pub loop-index-preserved : goal.loop-index-preserved
 loop-index-preserved c =
-    let at = c.in-Some.at in
-    let before = vec_items c.loop-index.prices in
-    c.in_ok-push.ensures.items ∙ ap (λ p. before ++ p ∷ []) c.at_hour.ensures
-    ∙ next_hour (price_of c.args.day.now) c.args.month c.loop-index.index at before c.in-Some.ensures.answer c.loop-index.invariant
+    let next = sym c.stamp_at.ensures.listed ∙ c.unwrap-at.ensures in
+    rw (c.in_ok-push.ensures.items, c.at_hour.ensures, c.loop-index.invariant)
+    (next_hour (price_of c.args.day.now) (hours c.args.month) c.loop-index.index c.unwrap-at.result next)
 
 pub returns : goal.returns
 returns c =
