@@ -2,7 +2,7 @@
 use calendar::{CalendarFault, Returned, Stamp};
 use market::{DayAheadTable, PriceList, PriceListFault};
 use std::test::Fail;
-use tariffs::PriceSource;
+use tariffs::{PriceSource, SourceFault};
 
 // What stands for a missing price, as the format writes it: the library's constant is under test.
 const MARK: u32 = 0xffff_ffff;
@@ -93,30 +93,28 @@ fn lists_are_refused_by_month_then_length_then_price(rt: HostRuntime) -> Result<
     Ok(())
 }
 
-// A price, or the cause and the depth of a fault.
-type Answer = Result<u32, (u8, u8)>;
+type Answer = Result<u32, SourceFault>;
 
-fn answered(table: DayAheadTable, at: Stamp) -> Answer {
-    let mut table = table;
-    table.price(at).map_err(|fault| (fault.cause, fault.depth))
-}
+const OUTSIDE: Answer = Err(SourceFault { cause: 1, depth: 0 });
+
+const MISSING: Answer = Err(SourceFault { cause: 2, depth: 0 });
 
 // a stamp, and what two tables answer there: December 2025 and January 2026, the price being the hour's index, 48 missing
 const HOURS: [(u16, u8, u8, u8, Answer, Answer); 11] = [
     // the last hour of a year and the first of the next
-    (2025, 12, 31, 23, Ok(743), Err((1, 0))),
-    (2026, 1, 1, 0, Err((1, 0)), Ok(0)),
-    (2025, 12, 1, 0, Ok(0), Err((1, 0))),
-    (2026, 1, 31, 23, Err((1, 0)), Ok(743)),
+    (2025, 12, 31, 23, Ok(743), OUTSIDE),
+    (2026, 1, 1, 0, OUTSIDE, Ok(0)),
+    (2025, 12, 1, 0, Ok(0), OUTSIDE),
+    (2026, 1, 31, 23, OUTSIDE, Ok(743)),
     // next to the missing price, and at it
-    (2026, 1, 2, 23, Err((1, 0)), Ok(47)),
-    (2026, 1, 3, 0, Err((1, 0)), Err((2, 0))),
-    (2026, 1, 3, 1, Err((1, 0)), Ok(49)),
+    (2026, 1, 2, 23, OUTSIDE, Ok(47)),
+    (2026, 1, 3, 0, OUTSIDE, MISSING),
+    (2026, 1, 3, 1, OUTSIDE, Ok(49)),
     // the same month of another year, and a month further on
-    (2024, 12, 31, 23, Err((1, 0)), Err((1, 0))),
-    (2027, 1, 1, 0, Err((1, 0)), Err((1, 0))),
-    (2026, 2, 1, 0, Err((1, 0)), Err((1, 0))),
-    (2025, 11, 30, 23, Err((1, 0)), Err((1, 0))),
+    (2024, 12, 31, 23, OUTSIDE, OUTSIDE),
+    (2027, 1, 1, 0, OUTSIDE, OUTSIDE),
+    (2026, 2, 1, 0, OUTSIDE, OUTSIDE),
+    (2025, 11, 30, 23, OUTSIDE, OUTSIDE),
 ];
 
 #[test]
@@ -126,7 +124,7 @@ fn a_table_answers_in_its_month_and_nowhere_else(rt: HostRuntime) -> Result<(), 
         *price = if index == 48 {
             MARK
         } else {
-            (index & 0xffff) as u32
+            u32::try_from(index)?
         };
     }
     let december = PriceList {
@@ -142,9 +140,9 @@ fn a_table_answers_in_its_month_and_nowhere_else(rt: HostRuntime) -> Result<(), 
     let (december, january) = (december.check()?, january.check()?);
     for (year, month, day, hour, first, second) in HOURS {
         let at = Stamp::new(year, month, day, hour)?;
-        assert_eq!(rt; answered(december.table(), at), first);
-        assert_eq!(rt; answered(january.table(), at), second);
-        assert_eq!(rt; answered(DayAheadTable::empty(), at), Err((1, 0)));
+        assert_eq!(rt; december.table().price(at), first);
+        assert_eq!(rt; january.table().price(at), second);
+        assert_eq!(rt; DayAheadTable::empty().price(at), OUTSIDE);
     }
     Ok(())
 }

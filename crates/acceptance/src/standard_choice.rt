@@ -6,12 +6,12 @@ use site::Setpoints;
 use std::test::Fail;
 use tariffs::{PriceSource, SourceFault};
 
-// A price, or the cause and the depth of a fault.
-type Answer = Result<u32, (u8, u8)>;
+type Answer = Result<u32, SourceFault>;
 
-fn shown(answer: Result<u32, SourceFault>) -> Answer {
-    answer.map_err(|fault| (fault.cause, fault.depth))
-}
+// A missing price: bare from the table, and one deeper through a lower-of.
+const MISSING: Answer = Err(SourceFault { cause: 2, depth: 0 });
+
+const DEEPER: Answer = Err(SourceFault { cause: 2, depth: 1 });
 
 // mode 3, base price 432,000 and free price 300,000 kopiykas per MWh, under a sale rule
 fn site(rule: u32) -> [u32; 12] {
@@ -31,9 +31,9 @@ const ROLES: [(u32, u8, u8, [Answer; 3]); 12] = [
     (3, 1, 6, [Ok(1_728_000), Ok(3_000_000), Ok(1_728_000)]),
     (3, 1, 8, [Ok(6_480_000), Ok(3_000_000), Ok(5_000_000)]),
     // a missing price: bare from the table, one deeper through a lower-of, and none where the table is not asked
-    (1, 2, 0, [Ok(1_728_000), Err((2, 0)), Err((2, 1))]),
-    (2, 2, 0, [Ok(1_728_000), Err((2, 1)), Err((2, 1))]),
-    (3, 2, 0, [Ok(1_728_000), Ok(3_000_000), Err((2, 1))]),
+    (1, 2, 0, [Ok(1_728_000), MISSING, DEEPER]),
+    (2, 2, 0, [Ok(1_728_000), DEEPER, DEEPER]),
+    (3, 2, 0, [Ok(1_728_000), Ok(3_000_000), DEEPER]),
     // a price of 0
     (1, 2, 1, [Ok(1_728_000), Ok(0), Ok(0)]),
     (2, 2, 1, [Ok(1_728_000), Ok(0), Ok(0)]),
@@ -55,9 +55,9 @@ fn each_role_is_priced_by_its_source(rt: HostRuntime) -> Result<(), Fail> {
         let setpoints = Setpoints::check(site(rule))?;
         let at = Stamp::new(2026, 1, day, hour)?;
         let mut choice = StandardChoice::new(&setpoints, checked.table());
-        assert_eq!(rt; shown(choice.purchase.price(at)), bought);
-        assert_eq!(rt; shown(choice.sale.price(at)), sold);
-        assert_eq!(rt; shown(choice.excess.price(at)), excess);
+        assert_eq!(rt; choice.purchase.price(at), bought);
+        assert_eq!(rt; choice.sale.price(at), sold);
+        assert_eq!(rt; choice.excess.price(at), excess);
     }
     Ok(())
 }
