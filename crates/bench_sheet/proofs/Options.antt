@@ -49,6 +49,10 @@ number_four_digits n small =
     ∙ ap (λ ds. ds ++ decimal (n / 10 % 10)) (zeros_more (n / 10 / 10) (omega arith) 1 (omega arith)
     ∙ ap (λ ds. ds ++ decimal (n / 10 / 10 % 10)) (zeros_one (n / 10 / 10 / 10) (omega arith))))
 
+pub length-four_digits : (n : ℕ) → n < 10000 → length (padded_integral (format_spec 32 0 4 4 (2 ^ 64 - 1)) false [] (decimal n)) ≡ 4
+length-four_digits n few =
+    rw (number_four_digits n (omega arith), decimal_digit (n / 10 / 10 / 10) (omega arith), decimal_digit (n / 10 / 10 % 10) (omega arith), decimal_digit (n / 10 % 10) (omega arith), decimal_digit (n % 10) (omega arith)) refl
+
 -- a price with its four decimals
 pub decimals_written : (points : ℕ) → points < 2 ^ 64
     → decimal (points / 10000) ++ (codes "." ++ padded_integral (format_spec 32 0 4 4 (2 ^ 64 - 1)) false [] (decimal (points % 10000))) ≡ per_kwh points

@@ -1,25 +1,57 @@
-// Text in columns.
-ghost use Rattle.std.specs.Fmt.{styled_text};
-ghost use Rattle.std.specs.Option.{option_map};
+// Texts at the right of a column. A width pads a number, so it stands at the number that a text begins with, and is the column's less
+// what follows there.
+ghost use Rattle.std.specs.Prelude.{Some};
+ghost use Rattle.bench_sheet.specs.Columns.{right};
 
-use arrayvec::ArrayString;
 use std::fmt;
-use std::fmt::Write;
+use tariffs::{Coefficient, SourceFault};
 
-// What a value prints, as one text, which a width such as `{:>13}` pads.
-// A `Display` that is written in pieces passes its width by, so the text is made first.
-// The longest text of the sheet that is padded has 20 bytes; one that had no room here would be an error, and never cut.
+// A coefficient, in a column of 14.
 #[derive(Clone, Copy)]
-pub struct Column<T>(pub T);
+pub struct CoefficientColumn(pub Coefficient);
 
-impl<T: fmt::Display> fmt::Display for Column<T> {
-    ghost output = { λ c. T.output c.0 };
+impl fmt::Display for CoefficientColumn {
+    ghost use Rattle.tariffs.specs.Coefficient.{tenths_text};
 
-    ghost styled_output = { λ c s. option_map (styled_text s) (T.output c.0) };
+    ghost output = { λ c. Some (right 14 (tenths_text c.0.tenths)) };
 
+    #[tactic(auto, using(crate::proofs::ColumnTexts::tenths_right))]
     fn fmt<W: fmt::Write>(&self, f: &mut fmt::Formatter<W>) -> fmt::Result {
-        let mut text = ArrayString::<32>::new();
-        write!(text, "{}", self.0)?;
-        f.pad(text.as_str())
+        let tenths = self.0.tenths;
+        write!(f, "{:>12}.{}", tenths / 10, tenths % 10)
+    }
+}
+
+// A price in points as kopiykas per kWh, in a column of 18.
+#[derive(Clone, Copy)]
+pub struct PriceColumn(pub u32);
+
+impl fmt::Display for PriceColumn {
+    ghost use Rattle.bench_sheet.specs.Rows.{per_kwh};
+
+    ghost output = { λ p. Some (right 18 (per_kwh p.0)) };
+
+    #[tactic(auto, using(crate::proofs::ColumnTexts::price_right))]
+    fn fmt<W: fmt::Write>(&self, f: &mut fmt::Formatter<W>) -> fmt::Result {
+        let PriceColumn(points) = *self;
+        write!(f, "{:>13}.{:04}", points / 10_000, points % 10_000)
+    }
+}
+
+// What a price source answered, in a column of 13. The words of a fault are longer than that.
+#[derive(Clone, Copy)]
+pub struct AnswerColumn(pub Result<u32, SourceFault>);
+
+impl fmt::Display for AnswerColumn {
+    ghost use Rattle.bench_sheet.specs.Rows.{answer_text};
+
+    ghost output = { λ a. Some (right 13 (answer_text a.0)) };
+
+    #[tactic(auto, using(crate::proofs::ColumnTexts::answer_right, crate::proofs::ColumnTexts::fault_right))]
+    fn fmt<W: fmt::Write>(&self, f: &mut fmt::Formatter<W>) -> fmt::Result {
+        match self.0 {
+            Ok(points) => write!(f, "{:>8}.{:04}", points / 10_000, points % 10_000),
+            Err(fault) => write!(f, "{fault}"),
+        }
     }
 }

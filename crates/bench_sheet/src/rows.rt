@@ -2,8 +2,8 @@
 ghost use Rattle.std.specs.Prelude.{◌≡◌, Some};
 ghost use Rattle.bench_sheet.specs.Rows.{asked_row, refusal_row, setpoint_row, unit as unit_of, zone_row};
 
-use crate::columns::Column;
-use crate::texts::{Answer, DateAndHour, HourStart, PerKwh};
+use crate::columns::{AnswerColumn, CoefficientColumn, PriceColumn};
+use crate::texts::{Answer, DateAndHour, HourStart};
 use calendar::{Returned, Stamp};
 use site::{Setpoint, SetpointFault};
 use std::fmt;
@@ -42,8 +42,11 @@ impl fmt::Display for SetpointRow {
     fn fmt<W: fmt::Write>(&self, f: &mut fmt::Formatter<W>) -> fmt::Result {
         let SetpointRow { setpoint, value } = *self;
         let number = u32::from(setpoint);
-        let name = Column(setpoint);
-        write!(f, "{number:>4}  {name:<20}{value:>11}{}", unit(setpoint))
+        write!(
+            f,
+            "{number:>4}  {setpoint:<20}{value:>11}{}",
+            unit(setpoint)
+        )
     }
 }
 
@@ -71,7 +74,7 @@ pub struct ZoneRow {
 impl fmt::Display for ZoneRow {
     ghost output = { λ r. Some (zone_row r.hour r.coefficient.tenths r.points) };
 
-    #[tactic(auto, using(crate::proofs::Options::number_right, crate::proofs::ColumnTexts::tenths_right, crate::proofs::ColumnTexts::per_kwh_right))]
+    #[tactic(auto, using(crate::proofs::Options::number_right))]
     fn fmt<W: fmt::Write>(&self, f: &mut fmt::Formatter<W>) -> fmt::Result {
         let ZoneRow {
             hour,
@@ -79,9 +82,9 @@ impl fmt::Display for ZoneRow {
             points,
         } = *self;
         let hour = HourStart(hour);
-        let coefficient = Column(coefficient);
-        let price = Column(PerKwh(points));
-        write!(f, "  {hour}{coefficient:>14}{price:>18}{points:>13}")
+        let coefficient = CoefficientColumn(coefficient);
+        let price = PriceColumn(points);
+        write!(f, "  {hour}{coefficient}{price}{points:>13}")
     }
 }
 
@@ -101,18 +104,14 @@ impl fmt::Display for RolesRow {
 
     ghost output = { λ r. Some (roles_row r) };
 
-    #[tactic(auto, using(crate::proofs::ColumnTexts::answer_right))]
     fn fmt<W: fmt::Write>(&self, f: &mut fmt::Formatter<W>) -> fmt::Result {
         let hour = HourStart(self.hour);
-        let bought = Column(Answer(self.bought));
-        let first = Column(Answer(self.first));
-        let second = Column(Answer(self.second));
-        let third = Column(Answer(self.third));
-        let excess = Column(Answer(self.excess));
-        write!(
-            f,
-            "  {hour}{bought:>13}{first:>13}{second:>13}{third:>13}{excess:>13}"
-        )
+        let bought = AnswerColumn(self.bought);
+        let first = AnswerColumn(self.first);
+        let second = AnswerColumn(self.second);
+        let third = AnswerColumn(self.third);
+        let excess = AnswerColumn(self.excess);
+        write!(f, "  {hour}{bought}{first}{second}{third}{excess}")
     }
 }
 

@@ -1,8 +1,6 @@
 // Lines of a sheet, and what is read of them.
-use crate::columns::Column;
 use crate::fault::LineFault;
 use crate::rows::AskedRow;
-use crate::texts::{Answer, PerKwh};
 use crate::typed::Typed;
 use crate::{day_ahead, roles, show_prices};
 use calendar::Stamp;
@@ -10,7 +8,7 @@ use market::PriceList;
 use pricing::StandardChoice;
 use site::Setpoints;
 use std::test::Fail;
-use tariffs::{PriceSource, SourceFault};
+use tariffs::PriceSource;
 
 // How many numbers a line has, or why it cannot be read.
 fn count(line: &str) -> Result<usize, LineFault> {
@@ -166,24 +164,5 @@ fn prices_by_role_and_hours_with_no_price(rt: HostRuntime) -> Result<(), Fail> {
         assert_eq!(rt; row.to_string(rt.alloc())?.as_str(), line);
     }
     show_prices(&rt, &setpoints)?;
-    Ok(())
-}
-
-// No clause says that a text has room in its column: these are the longest.
-#[test]
-fn the_longest_texts_have_room_in_a_column(rt: HostRuntime) -> Result<(), Fail> {
-    let fault = Column(Answer(Err(SourceFault {
-        cause: 255,
-        depth: 255,
-    })));
-    assert_eq!(rt;
-        format!(in rt.alloc(); "{fault:>24}")?.as_str(),
-        "    cause 255, depth 255"
-    );
-    let price = Column(PerKwh(u32::MAX));
-    assert_eq!(rt;
-        format!(in rt.alloc(); "{price:>13}")?.as_str(),
-        "  429496.7295"
-    );
     Ok(())
 }

@@ -66,14 +66,17 @@ impl From<Setpoint> for u32 {
     }
 }
 
-// The name that a person reads.
+// The name that a person reads; a width such as `{:<20}` pads it.
 impl fmt::Display for Setpoint {
+    ghost use Rattle.std.specs.Fmt.{styled_text};
     ghost use Rattle.site.specs.Setpoint.{name};
 
     ghost output = { λ s. Some (name s) };
 
+    ghost styled_output = { λ s style. Some (styled_text style (name s)) };
+
     fn fmt<W: fmt::Write>(&self, f: &mut fmt::Formatter<W>) -> fmt::Result {
-        f.write_str(match self {
+        f.pad(match self {
             Setpoint::AccountNumber => "account number",
             Setpoint::ContractedPower => "contracted power",
             Setpoint::InstalledPower => "installed power",
