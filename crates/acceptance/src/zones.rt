@@ -1,30 +1,31 @@
 // The zones of the day and the zone tariff.
 use calendar::{CalendarFault, Month, Returned};
+use std::ops::Range;
 use std::test::Fail;
 use tariffs::{PriceSource, ZoneMode, ZoneTariff};
 
-// mode, from hour, to hour, coefficient in tenths: every hour of a day in each mode
-const ZONES: [(u32, usize, usize, u32); 11] = [
-    (1, 0, 24, 10),
-    (2, 0, 7, 5),
-    (2, 7, 23, 10),
-    (2, 23, 24, 5),
-    (3, 0, 7, 4),
-    (3, 7, 8, 10),
-    (3, 8, 11, 15),
-    (3, 11, 20, 10),
-    (3, 20, 22, 15),
-    (3, 22, 23, 10),
-    (3, 23, 24, 4),
+// mode, hours, coefficient in tenths: every hour of a day in each mode
+const ZONES: [(u32, Range<usize>, u32); 11] = [
+    (1, 0..24, 10),
+    (2, 0..7, 5),
+    (2, 7..23, 10),
+    (2, 23..24, 5),
+    (3, 0..7, 4),
+    (3, 7..8, 10),
+    (3, 8..11, 15),
+    (3, 11..20, 10),
+    (3, 20..22, 15),
+    (3, 22..23, 10),
+    (3, 23..24, 4),
 ];
 
 #[test]
 fn coefficients_by_mode_and_hour(rt: HostRuntime) -> Result<(), Fail> {
     let month = Month::new(2026, 3)?;
-    for (number, from, to, tenths) in ZONES {
+    for (number, hours, tenths) in ZONES {
         let mode = ZoneMode::try_from(number)?;
         assert_eq!(rt; u32::from(mode), number);
-        for hour in from..to {
+        for hour in hours {
             let at = month.stamp_at(hour).ok_or(CalendarFault::NotInMonth)?;
             assert_eq!(rt; mode.coefficient(at).tenths, tenths);
         }

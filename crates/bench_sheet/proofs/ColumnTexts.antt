@@ -1,10 +1,10 @@
 -- What the widths of the sheet's columns write. Assumes nothing.
 use Prim.Native.Nat.{suc, zero}
-use Rattle.std.proofs.Common.{◌≡◌, ℕ, ◌+◌, ◌-◌, ◌/◌, ◌%◌, ◌^◌, ◌<◌, ◌≤◌, false, List, [], ◌∷◌, ◌++◌, length, replicate, codes, decimal, sym, refl, ap, ◌∙◌, append_assoc, arith, length-append}
-use Rattle.std.proofs.Padding.{padded_is, repeat_ascii, take_chars_all}
+use Rattle.std.proofs.Common.{◌≡◌, ℕ, ◌-◌, ◌/◌, ◌%◌, ◌^◌, ◌<◌, ◌≤◌, false, List, [], ◌∷◌, ◌++◌, length, replicate, codes, decimal, sym, refl, ap, ◌∙◌, append_assoc, arith, length-append}
+use Rattle.std.proofs.Padding.{padded_is, repeat_ascii, styled_decimal_is, take_chars_all}
 use Rattle.std.proofs.lemmas.Fmt.{decimal_digit, decimal_nonempty}
 use Rattle.std.specs.List.{repeat}
-use Rattle.std.specs.Fmt.{char_count, format_spec, padded, padded_integral, take_chars}
+use Rattle.std.specs.Fmt.{char_count, format_spec, padded, padded_integral, styled_decimal, take_chars}
 use Rattle.site.specs.Setpoint.{name}
 use Rattle.site.specs.declared.setpoint.Setpoint.{Setpoint}
 use Rattle.site.specs.declared.setpoint.Setpoint.TheVariants.{AccountNumber, ContractedPower, InstalledPower, ZoneMode, PurchaseBase, FreeSalePrice, SaleRule, Distribution, Transmission, StorageMetered, FirstMonth, PayoutFloor}
@@ -16,14 +16,18 @@ use Rattle.bench_sheet.specs.Rows.{per_kwh}
 use Rattle.bench_sheet.proofs.Options.{decimals_written, length-four_digits, number_right}
 
 -- what follows a text at the right of a column takes its own room there
-right_before : (w v : ℕ) (text behind : List ℕ) → length behind + v ≡ w → right v text ++ behind ≡ right w (text ++ behind)
+right_before : (w v : ℕ) (text behind : List ℕ) → v ≡ w - length behind → right v text ++ behind ≡ right w (text ++ behind)
 right_before w v text behind room =
     let same : v - length text ≡ w - length (text ++ behind) = omega (arith, length-append text behind) in
     rw (← same) (append_assoc (replicate (v - length text) 32) text behind)
 
 -- a number at the right, and what follows it
-number_before : (w v n : ℕ) (behind : List ℕ) → length behind + v ≡ w → padded_integral (format_spec 32 3 0 v (2 ^ 64 - 1)) false [] (decimal n) ++ behind ≡ right w (decimal n ++ behind)
+number_before : (w v n : ℕ) (behind : List ℕ) → v ≡ w - length behind → padded_integral (format_spec 32 3 0 v (2 ^ 64 - 1)) false [] (decimal n) ++ behind ≡ right w (decimal n ++ behind)
 number_before w v n behind room = ap (λ text. text ++ behind) (number_right v (decimal n)) ∙ right_before w v (decimal n) behind room
+
+-- a text in a column of 0 stands alone
+pub right_of_none : (text : List ℕ) → right 0 text ≡ text
+right_of_none text = let none : 0 - length text ≡ 0 = omega arith in rw none refl
 
 -- a coefficient
 pub tenths_right : (n : ℕ) → padded_integral (format_spec 32 3 0 12 (2 ^ 64 - 1)) false [] (decimal (n / 10)) ++ (codes "." ++ decimal (n % 10)) ≡ right 14 (tenths_text n)
@@ -31,19 +35,13 @@ tenths_right n =
     let digit = decimal_digit (n % 10) (omega arith) in
     number_before 14 12 (n / 10) (codes "." ++ decimal (n % 10)) (rw digit refl)
 
--- a price
-price_before : (w v points : ℕ) → points < 2 ^ 64 → w ≡ v + 5
-    → padded_integral (format_spec 32 3 0 v (2 ^ 64 - 1)) false [] (decimal (points / 10000)) ++ (codes "." ++ padded_integral (format_spec 32 0 4 4 (2 ^ 64 - 1)) false [] (decimal (points % 10000))) ≡ right w (per_kwh points)
-price_before w v points small room =
-    let behind = codes "." ++ padded_integral (format_spec 32 0 4 4 (2 ^ 64 - 1)) false [] (decimal (points % 10000)) in
-    let long : length behind + v ≡ w = omega (arith, length-append (codes ".") (padded_integral (format_spec 32 0 4 4 (2 ^ 64 - 1)) false [] (decimal (points % 10000))), length-four_digits (points % 10000) (omega arith)) in
-    number_before w v (points / 10000) behind long ∙ ap (right w) (decimals_written points small)
-
-pub price_right : (points : ℕ) → points < 2 ^ 64 → padded_integral (format_spec 32 3 0 13 (2 ^ 64 - 1)) false [] (decimal (points / 10000)) ++ (codes "." ++ padded_integral (format_spec 32 0 4 4 (2 ^ 64 - 1)) false [] (decimal (points % 10000))) ≡ right 18 (per_kwh points)
-price_right points small = price_before 18 13 points small refl
-
-pub answer_right : (points : ℕ) → points < 2 ^ 64 → padded_integral (format_spec 32 3 0 8 (2 ^ 64 - 1)) false [] (decimal (points / 10000)) ++ (codes "." ++ padded_integral (format_spec 32 0 4 4 (2 ^ 64 - 1)) false [] (decimal (points % 10000))) ≡ right 13 (per_kwh points)
-answer_right points small = price_before 13 8 points small refl
+-- a price, whose four decimals and their point take five places
+pub price_right : (w v points : ℕ) (front back : _) → front ≡ format_spec 32 3 0 v (2 ^ 64 - 1) → back ≡ format_spec 32 0 4 4 (2 ^ 64 - 1)
+    → v ≡ w - 5 → points < 2 ^ 64 → styled_decimal front (points / 10000) ++ (codes "." ++ styled_decimal back (points % 10000)) ≡ right w (per_kwh points)
+price_right w v points front back padded zeros room small =
+    let decimals = padded_integral (format_spec 32 0 4 4 (2 ^ 64 - 1)) false [] (decimal (points % 10000)) in
+    let left : v ≡ w - length (codes "." ++ decimals) = omega (arith, length-append (codes ".") decimals, length-four_digits (points % 10000) (omega arith)) in
+    rw (styled_decimal_is front (points / 10000), styled_decimal_is back (points % 10000), padded, zeros) (number_before w v (points / 10000) (codes "." ++ decimals) left ∙ ap (right w) (decimals_written points small))
 
 -- the words of a fault, which are longer than a column of 13
 pub fault_right : (fault : SourceFault) → fault.cause < 2 ^ 8 → fault.depth < 2 ^ 8 → right 13 (words_source fault) ≡ words_source fault

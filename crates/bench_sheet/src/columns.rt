@@ -22,19 +22,19 @@ impl fmt::Display for CoefficientColumn {
     }
 }
 
-// A price in points as kopiykas per kWh, in a column of 18.
+// A price in points as kopiykas per kWh, in a column of some width; in one of 0 it stands alone.
 #[derive(Clone, Copy)]
-pub struct PriceColumn(pub u32);
+pub struct PerKwh<const WIDTH: usize>(pub u32);
 
-impl fmt::Display for PriceColumn {
+impl<const WIDTH: usize> fmt::Display for PerKwh<WIDTH> {
     ghost use Rattle.bench_sheet.specs.Rows.{per_kwh};
 
-    ghost output = { λ p. Some (right 18 (per_kwh p.0)) };
+    ghost output = { λ p. Some (right WIDTH (per_kwh p.0)) };
 
-    #[tactic(auto, using(crate::proofs::ColumnTexts::price_right))]
     fn fmt<W: fmt::Write>(&self, f: &mut fmt::Formatter<W>) -> fmt::Result {
-        let PriceColumn(points) = *self;
-        write!(f, "{:>13}.{:04}", points / 10_000, points % 10_000)
+        let PerKwh(points) = *self;
+        let whole = WIDTH.saturating_sub(5);
+        write!(f, "{:>whole$}.{:04}", points / 10_000, points % 10_000)
     }
 }
 
@@ -47,10 +47,10 @@ impl fmt::Display for AnswerColumn {
 
     ghost output = { λ a. Some (right 13 (answer_text a.0)) };
 
-    #[tactic(auto, using(crate::proofs::ColumnTexts::answer_right, crate::proofs::ColumnTexts::fault_right))]
+    #[tactic(auto, using(crate::proofs::ColumnTexts::fault_right))]
     fn fmt<W: fmt::Write>(&self, f: &mut fmt::Formatter<W>) -> fmt::Result {
         match self.0 {
-            Ok(points) => write!(f, "{:>8}.{:04}", points / 10_000, points % 10_000),
+            Ok(points) => write!(f, "{}", PerKwh::<13>(points)),
             Err(fault) => write!(f, "{fault}"),
         }
     }

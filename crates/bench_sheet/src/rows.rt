@@ -2,7 +2,7 @@
 ghost use Rattle.std.specs.Prelude.{◌≡◌, Some};
 ghost use Rattle.bench_sheet.specs.Rows.{asked_row, refusal_row, setpoint_row, unit as unit_of, zone_row};
 
-use crate::columns::{AnswerColumn, CoefficientColumn, PriceColumn};
+use crate::columns::{AnswerColumn, CoefficientColumn, PerKwh};
 use crate::texts::{Answer, DateAndHour, HourStart};
 use calendar::{Returned, Stamp};
 use site::{Setpoint, SetpointFault};
@@ -83,7 +83,7 @@ impl fmt::Display for ZoneRow {
         } = *self;
         let hour = HourStart(hour);
         let coefficient = CoefficientColumn(coefficient);
-        let price = PriceColumn(points);
+        let price = PerKwh::<18>(points);
         write!(f, "  {hour}{coefficient}{price}{points:>13}")
     }
 }

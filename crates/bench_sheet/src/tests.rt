@@ -3,7 +3,7 @@ use crate::fault::LineFault;
 use crate::rows::AskedRow;
 use crate::typed::Typed;
 use crate::{day_ahead, roles, show_prices};
-use calendar::Stamp;
+use calendar::{CalendarFault, Stamp};
 use market::PriceList;
 use pricing::StandardChoice;
 use site::Setpoints;
@@ -142,9 +142,7 @@ fn prices_by_role_and_hours_with_no_price(rt: HostRuntime) -> Result<(), Fail> {
     };
     let checked = list.check()?;
     for (index, line) in ROLES {
-        let Some(at) = month.stamp_at(index) else {
-            return Err(Fail::new("no such hour"));
-        };
+        let at = month.stamp_at(index).ok_or(CalendarFault::NotInMonth)?;
         let row = roles::priced(&setpoints, checked.table(), at);
         assert_eq!(rt; row.to_string(rt.alloc())?.as_str(), line);
     }

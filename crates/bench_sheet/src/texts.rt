@@ -1,24 +1,11 @@
 // The texts that the sheet's lines are made of.
 ghost use Rattle.std.specs.Prelude.{Some};
-ghost use Rattle.bench_sheet.specs.Rows.{answer_text, hour_start, per_kwh, stamp_text};
+ghost use Rattle.bench_sheet.specs.Rows.{answer_text, hour_start, stamp_text};
 
+use crate::columns::PerKwh;
 use calendar::Stamp;
 use std::fmt;
 use tariffs::SourceFault;
-
-// A price in points as kopiykas per kWh.
-#[derive(Clone, Copy)]
-pub struct PerKwh(pub u32);
-
-impl fmt::Display for PerKwh {
-    ghost output = { λ p. Some (per_kwh p.0) };
-
-    #[tactic(auto, using(crate::proofs::Options::decimals_written))]
-    fn fmt<W: fmt::Write>(&self, f: &mut fmt::Formatter<W>) -> fmt::Result {
-        let PerKwh(points) = *self;
-        write!(f, "{}.{:04}", points / 10_000, points % 10_000)
-    }
-}
 
 // The start of an hour, as a clock shows it.
 #[derive(Clone, Copy)]
@@ -60,9 +47,10 @@ pub struct Answer(pub Result<u32, SourceFault>);
 impl fmt::Display for Answer {
     ghost output = { λ a. Some (answer_text a.0) };
 
+    #[tactic(auto, using(crate::proofs::ColumnTexts::right_of_none))]
     fn fmt<W: fmt::Write>(&self, f: &mut fmt::Formatter<W>) -> fmt::Result {
         match self.0 {
-            Ok(points) => write!(f, "{}", PerKwh(points)),
+            Ok(points) => write!(f, "{}", PerKwh::<0>(points)),
             Err(fault) => write!(f, "{fault}"),
         }
     }

@@ -88,9 +88,7 @@ impl TryFrom<u32> for Month {
     ghost try_from_gives = { λ n r. r ≡ numbered_month n };
 
     fn try_from(number: u32) -> Result<Month, CalendarFault> {
-        match u16::try_from(number / 100) {
-            Ok(year) => Month::new(year, (number % 100) as u8),
-            Err(_) => Err(CalendarFault::NoSuchMonth),
-        }
+        let year = u16::try_from(number / 100).map_err(|_| CalendarFault::NoSuchMonth)?;
+        Month::new(year, (number % 100) as u8)
     }
 }
