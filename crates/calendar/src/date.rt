@@ -29,7 +29,7 @@ impl Date {
         Ok(Date { year, month, day })
     }
 
-    // The day of numbers that are known to name one.
+    // The day of numbers that are known to name one. Not a part of its callers, so that a wrong number there fails at a fact.
     pub(crate) fn of(year: u16, month: u8, day: u8) -> Date
         requires { is_date year month day ≡ true }
         ensures { result ≡ date_of year month day }

@@ -1,4 +1,4 @@
-// A refusal as the panel shows it: a number, and five places; a place that is not named is 0.
+// A refusal as the panel shows it: a number, and five places; a place that is not named is 0. Numbers are the panel's own form.
 ghost use Rattle.std.specs.Prelude.{Some};
 
 use std::fmt;

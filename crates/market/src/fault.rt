@@ -17,6 +17,7 @@ pub enum PriceListFault {
     TooHigh { day: u8, hour: u8 },
 }
 
+// Written out, since a clause names the fault that a `?` makes.
 impl From<CalendarFault> for PriceListFault {
     ghost from_gives = { λ fault r. r ≡ Calendar fault };
 
@@ -41,6 +42,7 @@ impl From<PriceListFault> for Returned {
     }
 }
 
+// The words for a person. Written out, since a derived message has no bytes that a clause could name.
 impl fmt::Display for PriceListFault {
     ghost output = { λ f. Some (words_list f) };
 

@@ -10,7 +10,7 @@ use calendar::{Month, Stamp};
 // No price is higher.
 const MOST_POINTS: u32 = 150_000_000;
 
-// What stands in a list for a price that is missing.
+// What stands in a list for a price that is missing: a number, since lists come in this format.
 pub const MISSING_PRICE: u32 = 0xffff_ffff;
 
 // A year, a month and prices in points, in the order of the month's hours; MISSING_PRICE stands for a missing one. Not checked yet.

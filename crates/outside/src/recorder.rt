@@ -17,6 +17,7 @@ pub struct Recorder<P> {
 impl<P: PriceSource> PriceSource for Recorder<P> {
     ghost means = { λ r. P.PriceSource.means r.source };
 
+    // The trait's clauses, and one more: a method with a clause of its own repeats the others.
     fn price(&mut self, at: Stamp) -> Result<u32, SourceFault>
         ensures answer { result ≡ P.PriceSource.means self.old.source at }
         ensures sound { Sound result }

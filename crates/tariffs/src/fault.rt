@@ -6,7 +6,8 @@ use std::error::Error;
 use std::fmt;
 
 // A source that has no price at an hour: the cause, 1 to 255, and how many sources the fault came up through, 0 to 15.
-// The cause stays a number: makes from outside have causes of their own.
+// The cause stays a number: makes from outside have causes of their own. Its ranges are not in the type, which would ask more of
+// those who make a fault.
 #[derive(Clone, Copy, Debug, PartialEq, Eq)]
 pub struct SourceFault {
     pub cause: u8,

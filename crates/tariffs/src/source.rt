@@ -10,7 +10,8 @@ pub trait PriceSource {
     // What the source means at every stamp.
     ghost means: { Self → Meaning };
 
-    // The price at a stamp in points, or why there is none. The answer is what the source means there.
+    // The price at a stamp in points, or why there is none. The answer is what the source means there. That it is sound is a clause
+    // and no law: the proof of a law would stand among the definitions that a reader has to believe.
     // Asking may change the source inside, as a cache changes; what it means at every stamp stays.
     fn price(&mut self, at: Stamp) -> Result<u32, SourceFault>
         ensures answer { result ≡ means self.old at }

@@ -29,7 +29,8 @@ where
 
 impl Setpoints {
     // The twelve numbers in their order, setpoint 1 first: accepted where each is allowed and the installed power is
-    // not above the contracted. Else refusal 1 with the lowest setpoint that is not allowed, then 2.
+    // not above the contracted. Else refusal 1 with the lowest setpoint that is not allowed, then 2. No try_from: the name says
+    // that the numbers are checked.
     pub fn check(numbers: [u32; 12]) -> Result<Setpoints, SetpointFault>
         ensures answer { Checked numbers result }
     {
