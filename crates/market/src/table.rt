@@ -67,9 +67,6 @@ impl PriceSource for DayAheadTable<'_> {
     ghost means = { table_means };
 
     fn price(&mut self, at: Stamp) -> Result<u32, SourceFault> {
-        match self.list {
-            Some(list) => list.price(at),
-            None => Err(OUTSIDE),
-        }
+        self.list.ok_or(OUTSIDE)?.price(at)
     }
 }
