@@ -1,6 +1,7 @@
 // Lists of day-ahead prices at their edges, and the tables made of them.
 use calendar::{CalendarFault, Returned, Stamp};
 use market::{DayAheadTable, PriceList, PriceListFault};
+use std::alloc::Global;
 use std::test::Fail;
 use tariffs::{PriceSource, SourceFault};
 
@@ -9,24 +10,21 @@ const MARK: u32 = 0xffff_ffff;
 
 // Refusal number, day and hour of a list of 4,000,000 points an hour, with some numbers put in, where it is refused.
 fn refusal(
+    heap: Global,
     year: u16,
     month: u8,
     length: usize,
     changes: &[(usize, u32)],
 ) -> Result<Option<(u32, u32, u32)>, Fail> {
-    let mut prices = [4_000_000; 746];
+    let mut prices = vec![in heap; 4_000_000; length]?;
     for (index, price) in changes {
-        if let Some(place) = prices.get_mut(*index) {
-            *place = *price;
-        }
+        let place = prices.get_mut(*index);
+        *place.ok_or_else(|| Fail::new("no such hour"))? = *price;
     }
-    let Some(prices) = prices.get(..length) else {
-        return Err(Fail::new("no such length"));
-    };
     let list = PriceList {
         year,
         month,
-        prices,
+        prices: prices.as_slice(),
     };
     Ok(
         list.check().err().map(|fault| {
@@ -88,7 +86,10 @@ const LISTS: [(u16, u8, usize, &[(usize, u32)], Option<(u32, u32, u32)>); 27] = 
 #[test]
 fn lists_are_refused_by_month_then_length_then_price(rt: HostRuntime) -> Result<(), Fail> {
     for (year, month, length, changes, expected) in LISTS {
-        assert_eq!(rt; refusal(year, month, length, changes)?, expected);
+        assert_eq!(rt;
+            refusal(rt.alloc(), year, month, length, changes)?,
+            expected
+        );
     }
     Ok(())
 }

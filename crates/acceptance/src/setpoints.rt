@@ -22,8 +22,10 @@ fn with(setpoint: u32, value: u32) -> [u32; 12] {
 
 fn replaced(numbers: [u32; 12], setpoint: u32, value: u32) -> [u32; 12] {
     let mut numbers = numbers;
-    if setpoint >= 1 && setpoint <= 12 {
-        numbers[setpoint as usize - 1] = value;
+    for (number, place) in (1u32..).zip(numbers.iter_mut()) {
+        if number == setpoint {
+            *place = value;
+        }
     }
     numbers
 }

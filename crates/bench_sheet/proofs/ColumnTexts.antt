@@ -8,11 +8,10 @@ use Rattle.std.specs.Fmt.{char_count, format_spec, padded, padded_integral, styl
 use Rattle.site.specs.Setpoint.{name}
 use Rattle.site.specs.declared.setpoint.Setpoint.{Setpoint}
 use Rattle.site.specs.declared.setpoint.Setpoint.TheVariants.{AccountNumber, ContractedPower, InstalledPower, ZoneMode, PurchaseBase, FreeSalePrice, SaleRule, Distribution, Transmission, StorageMetered, FirstMonth, PayoutFloor}
-use Rattle.tariffs.specs.Coefficient.{tenths_text}
 use Rattle.tariffs.specs.Faults.{words_source}
 use Rattle.tariffs.specs.declared.fault.SourceFault.{SourceFault}
 use Rattle.bench_sheet.specs.Columns.{left, right}
-use Rattle.bench_sheet.specs.Rows.{per_kwh}
+use Rattle.bench_sheet.specs.Rows.{per_kwh, tenths_text}
 use Rattle.bench_sheet.proofs.Options.{decimals_written, length-four_digits, number_right}
 
 -- what follows a text at the right of a column takes its own room there

@@ -7,7 +7,6 @@ use Rattle.site.specs.Setpoint.{setpoint_number, name}
 use Rattle.site.specs.declared.fault.SetpointFault.{SetpointFault}
 use Rattle.site.specs.declared.setpoint.Setpoint.{Setpoint}
 use Rattle.site.specs.declared.setpoint.Setpoint.TheVariants.{AccountNumber, ContractedPower, InstalledPower, ZoneMode, PurchaseBase, FreeSalePrice, SaleRule, Distribution, Transmission, StorageMetered, FirstMonth, PayoutFloor}
-use Rattle.tariffs.specs.Coefficient.{tenths_text}
 use Rattle.tariffs.specs.Faults.{words_source}
 use Rattle.tariffs.specs.declared.fault.SourceFault.{SourceFault}
 use Rattle.bench_sheet.specs.declared.fault.LineFault.{LineFault}
@@ -66,6 +65,10 @@ two_digits n = decimal (n / 10) ++ decimal (n % 10)
 -- the start of an hour, as a clock shows it
 abbrev pub hour_start : ℕ → List ℕ
 hour_start hour = decimal (hour / 10) ++ (decimal (hour % 10) ++ codes ":00")
+
+-- tenths with a decimal
+abbrev pub tenths_text : ℕ → List ℕ
+tenths_text n = decimal (n / 10) ++ (codes "." ++ decimal (n % 10))
 
 -- the hour's start, the coefficient, the price in kopiykas per kWh and in points
 abbrev pub zone_row : ℕ → ℕ → ℕ → List ℕ

@@ -6,12 +6,12 @@ ghost use Rattle.bench_sheet.specs.Columns.{right};
 use std::fmt;
 use tariffs::{Coefficient, SourceFault};
 
-// A coefficient, in a column of 14.
+// A coefficient with its decimal, in a column of 14.
 #[derive(Clone, Copy)]
 pub struct CoefficientColumn(pub Coefficient);
 
 impl fmt::Display for CoefficientColumn {
-    ghost use Rattle.tariffs.specs.Coefficient.{tenths_text};
+    ghost use Rattle.bench_sheet.specs.Rows.{tenths_text};
 
     ghost output = { λ c. Some (right 14 (tenths_text c.0.tenths)) };
 
@@ -38,7 +38,8 @@ impl<const WIDTH: usize> fmt::Display for PerKwh<WIDTH> {
     }
 }
 
-// What a price source answered, in a column of 13. The words of a fault are longer than that.
+// What a price source answered, in a column of 13. The words of a fault are longer than that, but not than any column: so this is
+// no type for every width, and an answer alone is another.
 #[derive(Clone, Copy)]
 pub struct AnswerColumn(pub Result<u32, SourceFault>);
 

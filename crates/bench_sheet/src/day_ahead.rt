@@ -25,7 +25,7 @@ pub fn held(heap: Global, month: Month, day: &[u32]) -> Result<Vec<u32>, AllocEr
     ensures { IfOk result (λ v. v.items ≡ held_for day.now month) }
 {
     let mut prices = Vec::new(heap);
-    // by index, since a month gives an hour by its index alone
+    // a chain over the same indices was tried, and its proof did not close
     for index in 0..month.hours() {
         let at = month.stamp_at(index).unwrap();
         prices.push(at_hour(day, at))?;

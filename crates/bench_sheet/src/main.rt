@@ -16,13 +16,14 @@ use fault::SheetFault;
 use figures::figures_that_hold;
 use market::{DayAheadTable, PriceList};
 use pricing::StandardChoice;
+use roles::PricedSite;
 use rows::{AskedRow, RefusalRow, SetpointRow};
 use site::{Setpoint, Setpoints};
 use std::fmt::Display;
 use std::io;
 use std::ops::Range;
 use std::process::ExitCode;
-use tariffs::{PriceSource, ZoneTariff};
+use tariffs::PriceSource;
 use typed::Typed;
 
 // The twelve numbers of standard input, or the line that stops them.
@@ -75,10 +76,7 @@ fn show_hours<R: Display + Drop, F: Fn(Stamp) -> R>(
 // The zone clock over 07:00 and over 23:00, from the first day of the first month on.
 fn show_zone_clock(rt: &HostRuntime, setpoints: &Setpoints) -> io::Result<()> {
     let month = setpoints.first_month;
-    let tariff = ZoneTariff {
-        mode: setpoints.zone_mode,
-        base: setpoints.purchase_base,
-    };
+    let tariff = StandardChoice::new(setpoints, DayAheadTable::empty()).purchase;
     println!(rt; "Zone clock, purchase tariff")?;
     println!(rt; "  hour    coefficient  kopiykas per kWh       points")?;
     show_hours(rt, month, 6..9, |at| clock::hour_row(tariff, at))?;
@@ -95,17 +93,17 @@ fn neighbour(month: Month) -> Month {
 }
 
 // Three hours without a price: outside the table's month, at a missing price, and the same through a lower-of.
-fn show_faults(rt: &HostRuntime, setpoints: &Setpoints, table: DayAheadTable) -> io::Result<()> {
-    let mut table = table;
-    let mut choice = StandardChoice::new(setpoints, table);
-    if let Some(at) = neighbour(setpoints.first_month).stamp_at(0) {
+fn show_faults(rt: &HostRuntime, site: PricedSite) -> io::Result<()> {
+    let mut table = site.table;
+    let mut choice = StandardChoice::new(&site.setpoints, table);
+    if let Some(at) = neighbour(site.setpoints.first_month).stamp_at(0) {
         rt.println(AskedRow {
             what: "outside the table's month",
             at,
             answer: table.price(at),
         })?;
     }
-    if let Some(at) = setpoints.first_month.stamp_at(12) {
+    if let Some(at) = site.setpoints.first_month.stamp_at(12) {
         rt.println(AskedRow {
             what: "a missing price",
             at,
@@ -133,14 +131,18 @@ fn show_prices(rt: &HostRuntime, setpoints: &Setpoints) -> anyhow::Result<()> {
         .check()
         .map_err(|fault| anyhow!("the day-ahead list is refused: {fault}"))?
         .table();
+    let site = PricedSite {
+        setpoints: *setpoints,
+        table,
+    };
     println!(rt; "Prices by role, kopiykas per kWh")?;
     println!(rt; "  hour      purchase  sale rule 1  sale rule 2  sale rule 3       excess")?;
-    show_hours(rt, month, 6..9, |at| roles::priced(setpoints, table, at))?;
+    show_hours(rt, month, 6..9, |at| site.priced(at))?;
     println!(rt)?;
-    show_hours(rt, month, 22..25, |at| roles::priced(setpoints, table, at))?;
+    show_hours(rt, month, 22..25, |at| site.priced(at))?;
     println!(rt)?;
     println!(rt; "No price")?;
-    show_faults(rt, setpoints, table)?;
+    show_faults(rt, site)?;
     Ok(())
 }
 

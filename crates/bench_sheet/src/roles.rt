@@ -11,32 +11,36 @@ use pricing::StandardChoice;
 use site::{SaleRule, Setpoints};
 use tariffs::{PriceSource, SourceFault};
 
-// What the site would be paid for sold energy under a rule.
-fn sale_price(
-    setpoints: &Setpoints,
-    rule: SaleRule,
-    table: DayAheadTable,
-    at: Stamp,
-) -> Result<u32, SourceFault>
-    ensures { result ≡ sold_at rule (table_means table.entry) (purchase_tariff setpoints.now) (free_price setpoints.now) at }
-{
-    let mut site = *setpoints;
-    site.sale_rule = rule;
-    let mut choice = StandardChoice::new(&site, table);
-    choice.sale.price(at)
+// A site, and the table that its energy is priced by.
+#[derive(Clone, Copy)]
+pub struct PricedSite<'a> {
+    pub setpoints: Setpoints,
+    pub table: DayAheadTable<'a>,
 }
 
-// An hour's row: bought energy, sold energy under each rule, and excess.
-pub fn priced(setpoints: &Setpoints, table: DayAheadTable, at: Stamp) -> RolesRow
-    ensures { roles_row result ≡ priced_row setpoints.now (table_means table.entry) at }
-{
-    let mut choice = StandardChoice::new(setpoints, table);
-    RolesRow {
-        hour: at.hour,
-        bought: choice.purchase.price(at),
-        first: sale_price(setpoints, SaleRule::DayAhead, table, at),
-        second: sale_price(setpoints, SaleRule::CappedDayAhead, table, at),
-        third: sale_price(setpoints, SaleRule::FreePrice, table, at),
-        excess: choice.excess.price(at),
+impl PricedSite<'_> {
+    // What the site would be paid for sold energy under a rule.
+    fn sale_price(&self, rule: SaleRule, at: Stamp) -> Result<u32, SourceFault>
+        ensures { result ≡ sold_at rule (table_means self.now.table) (purchase_tariff self.now.setpoints) (free_price self.now.setpoints) at }
+    {
+        let mut setpoints = self.setpoints;
+        setpoints.sale_rule = rule;
+        let mut choice = StandardChoice::new(&setpoints, self.table);
+        choice.sale.price(at)
+    }
+
+    // An hour's row: bought energy, sold energy under each rule, and excess.
+    pub fn priced(&self, at: Stamp) -> RolesRow
+        ensures { roles_row result ≡ priced_row self.now.setpoints (table_means self.now.table) at }
+    {
+        let mut choice = StandardChoice::new(&self.setpoints, self.table);
+        RolesRow {
+            hour: at.hour,
+            bought: choice.purchase.price(at),
+            first: self.sale_price(SaleRule::DayAhead, at),
+            second: self.sale_price(SaleRule::CappedDayAhead, at),
+            third: self.sale_price(SaleRule::FreePrice, at),
+            excess: choice.excess.price(at),
+        }
     }
 }

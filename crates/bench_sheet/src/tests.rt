@@ -1,8 +1,9 @@
 // Lines of a sheet, and what is read of them.
 use crate::fault::LineFault;
+use crate::roles::PricedSite;
 use crate::rows::AskedRow;
 use crate::typed::Typed;
-use crate::{day_ahead, roles, show_prices};
+use crate::{day_ahead, show_prices};
 use calendar::{CalendarFault, Stamp};
 use market::PriceList;
 use pricing::StandardChoice;
@@ -141,9 +142,13 @@ fn prices_by_role_and_hours_with_no_price(rt: HostRuntime) -> Result<(), Fail> {
         prices: prices.as_slice(),
     };
     let checked = list.check()?;
+    let site = PricedSite {
+        setpoints,
+        table: checked.table(),
+    };
     for (index, line) in ROLES {
         let at = month.stamp_at(index).ok_or(CalendarFault::NotInMonth)?;
-        let row = roles::priced(&setpoints, checked.table(), at);
+        let row = site.priced(at);
         assert_eq!(rt; row.to_string(rt.alloc())?.as_str(), line);
     }
     // the three questions with no price go to the table, and to the lower-of for excess energy

@@ -21,7 +21,7 @@ pub struct PriceList<'a> {
     pub prices: &'a [u32],
 }
 
-// A list that passed the check: a price or the mark of a missing one for each hour of a month.
+// A list that the check passes: a price or the mark of a missing one for each hour of a month.
 #[derive(Clone, Copy)]
 pub struct CheckedPrices<'a> {
     pub month: Month,

@@ -38,7 +38,7 @@ impl<'a> CheckedPrices<'a> {
         at.month() == self.month
     }
 
-    // What the list says of an hour.
+    // What the list says of an hour, and that it is sound, as each answer of a source has to be.
     fn price(self, at: Stamp) -> Result<u32, SourceFault>
         ensures answer { result ≡ list_means self.entry at }
         ensures sound { Sound result }

@@ -8,7 +8,7 @@ use std::alloc::{AllocError, Global};
 #[derive(Drop)]
 pub struct Questions {
     stamps: Vec<Stamp>,
-    // an error where there was no memory for one: none is noted since
+    // an error where there was no memory for one: none is noted since. Beside the stamps, which stay where one is lost
     noted: Result<(), AllocError>,
 }
 

@@ -6,7 +6,7 @@ use calendar::Stamp;
 use std::alloc::{AllocError, Global};
 use tariffs::{PriceSource, SourceFault};
 
-// Asks one question after the other. However many come before it, each is answered by what the source meant at the start.
+// Asks one question after the other. That what the source means stays is a fact of before and after, which no type can hold. However many come before it, each is answered by what the source meant at the start.
 pub fn ask_each<P: PriceSource>(
     heap: Global,
     source: &mut P,

@@ -2,8 +2,7 @@
 use Rattle.market.specs.DayAheadTable.{table_means}
 use Rattle.tariffs.specs.LowerOf.{lower}
 use Rattle.tariffs.specs.Source.{Meaning}
-use Rattle.tariffs.specs.ZoneTariff.{tariff_means, zoned}
-use Rattle.tariffs.specs.declared.zones.ZoneMode.TheVariants.{SingleZone}
+use Rattle.tariffs.specs.ZoneTariff.{tariff_means}
 use Rattle.pricing.specs.declared.sale.Sale.{Sale}
 use Rattle.pricing.specs.declared.sale.Sale.TheVariants.{DayAhead, Capped, FreePrice}
 
@@ -11,4 +10,4 @@ use Rattle.pricing.specs.declared.sale.Sale.TheVariants.{DayAhead, Capped, FreeP
 abbrev pub sale_means : Sale → Meaning
 sale_means (DayAhead table) = table_means table
 sale_means (Capped table cap) = lower (table_means table) (tariff_means cap)
-sale_means (FreePrice price) = zoned SingleZone price.kopiykas_per_mwh
+sale_means (FreePrice price) = tariff_means price

@@ -22,7 +22,7 @@ pub enum Sale<'a> {
         cap: ZoneTariff,
     },
     // rule 3: at one price for all hours
-    FreePrice(Rate),
+    FreePrice(ZoneTariff),
 }
 
 impl<'a> Sale<'a> {
@@ -44,7 +44,10 @@ impl<'a> Sale<'a> {
     pub fn free_price(price: Rate) -> Sale<'static>
         ensures answer { (at : Stamp) → sale_means result at ≡ zoned SingleZone price.kopiykas_per_mwh at }
     {
-        Sale::FreePrice(price)
+        Sale::FreePrice(ZoneTariff {
+            mode: ZoneMode::SingleZone,
+            base: price,
+        })
     }
 }
 
@@ -55,20 +58,11 @@ impl PriceSource for Sale<'_> {
         // the parts are asked as copies: what they mean is kept
         match *self {
             Sale::DayAhead(mut table) => table.price(at),
-            Sale::Capped { table, cap } => {
-                let mut lower = LowerOf {
-                    first: table,
-                    second: cap,
-                };
-                lower.price(at)
-            }
-            Sale::FreePrice(base) => {
-                let mut tariff = ZoneTariff {
-                    mode: ZoneMode::SingleZone,
-                    base,
-                };
-                tariff.price(at)
-            }
+            Sale::Capped {
+                table: first,
+                cap: second,
+            } => LowerOf { first, second }.price(at),
+            Sale::FreePrice(mut tariff) => tariff.price(at),
         }
     }
 }

@@ -42,7 +42,7 @@ impl Setpoint {
     }
 }
 
-// 1 to 12.
+// 1 to 12. By arms and not by discriminants, so that each number stands as in the definition.
 impl From<Setpoint> for u32 {
     ghost use Rattle.site.specs.Setpoint.{setpoint_number};
 

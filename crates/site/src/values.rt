@@ -44,7 +44,7 @@ impl TryFrom<u32> for SaleRule {
     }
 }
 
-// 1, 2 or 3.
+// 1, 2 or 3. By arms and not by discriminants, so that each number stands as in the definition.
 impl From<SaleRule> for u32 {
     ghost from_gives = { λ x n. n ≡ rule_number x };
 
@@ -79,7 +79,7 @@ impl TryFrom<u32> for StorageMetering {
     }
 }
 
-// 0 or 1.
+// 0 or 1, by arms for the same reason.
 impl From<StorageMetering> for u32 {
     ghost from_gives = { λ x n. n ≡ storage_number x };
 

@@ -1,4 +1,3 @@
-pub mod Coefficient
 pub mod Faults
 pub mod LowerOf
 pub mod Rate

@@ -51,7 +51,7 @@ impl TryFrom<u32> for ZoneMode {
     }
 }
 
-// 1, 2 or 3.
+// 1, 2 or 3. By arms and not by discriminants, so that each number stands as in the definition.
 impl From<ZoneMode> for u32 {
     ghost from_gives = { λ mode n. n ≡ mode_number mode };
 

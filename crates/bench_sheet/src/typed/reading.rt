@@ -80,6 +80,7 @@ impl Typed {
             typed: self,
             begun: None,
         };
+        // columns are counted from 1
         for (index, byte) in before_comment(line).iter().enumerate() {
             scan = scan.step(*byte, index + 1)?;
         }

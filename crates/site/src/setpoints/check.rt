@@ -8,7 +8,7 @@ use crate::fault::SetpointFault;
 use crate::setpoint::Setpoint;
 use crate::values::{AccountNumber, Kopiykas, Watts};
 
-// A value of a range.
+// A value of a range, which is the setpoint's and not its unit's: a watt has no bound of its own.
 fn ranged(setpoint: Setpoint, value: u32, least: u32, most: u32) -> Result<u32, SetpointFault>
     ensures { Reads setpoint value (within least most value) (λ n. n) result }
 {
@@ -34,6 +34,7 @@ impl Setpoints {
     pub fn check(numbers: [u32; 12]) -> Result<Setpoints, SetpointFault>
         ensures answer { Checked numbers result }
     {
+        // by index, since a pattern of twelve names would fill fourteen lines
         let account = AccountNumber(ranged(Setpoint::AccountNumber, numbers[0], 1, 999_999_999)?);
         let contracted_power = Watts(ranged(Setpoint::ContractedPower, numbers[1], 1, 1_000_000)?);
         let installed_power = Watts(ranged(Setpoint::InstalledPower, numbers[2], 1, 30_000)?);
