@@ -14,13 +14,14 @@ use Rattle.calendar.specs.declared.stamp.Stamp.{Stamp}
 use Rattle.calendar.proofs.Clock.{hour_below, hour_from}
 use Rattle.calendar.proofs.Named.{date_of_hour, month_of_date, the_month, the_date, the_stamp}
 
+-- by slice_get, as the hours of a month are read; the library's lemma on such a list speaks of get_or
 nth_counted : {X : Type 0} (f : ℕ → X) (a n i : ℕ) → i < n → slice_get (map f (range_with_len a n)) i ≡ Some (f (a + i))
 nth_counted f a zero i l = absurd (omega arith)
 nth_counted f a (suc n) zero l = let e : a ≡ a + 0 = omega arith in ap (λ k. Some (f k)) e
 nth_counted f a (suc n) (suc i) l =
     let e : a + 1 + i ≡ a + suc i = omega arith in nth_counted f (a + 1) n i (omega arith) ∙ ap (λ k. Some (f k)) e
 
--- lists of 24, one after the other
+-- lists of 24, one after the other; the library's lemmas speak of get_or, and of a sum of lengths
 module _ {X A : Type 0} (f : X → List A) (full : (x : X) → length (f x) ≡ 24) where
   length_rows : (xs : List X) → length (flat_map f xs) ≡ length xs * 24
   length_rows [] = refl

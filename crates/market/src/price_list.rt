@@ -61,7 +61,7 @@ impl<'a> PriceList<'a> {
     ghost use Rattle.market.specs.DayAheadTable.{Tabled, list_means};
 
     // Refusal 4 where there is no such month, then 10 where the list is not as long as the month, then 11 at the first price
-    // that is too high.
+    // that is too high. No try_from: the name says that the list is checked.
     pub fn check(self) -> Result<CheckedPrices<'a>, PriceListFault>
         ensures answer { Checked self.entry.year self.entry.month self.entry.prices.now result }
         ensures law { IfOk result (λ c. Tabled (month_of self.entry.year self.entry.month) self.entry.prices.now (list_means c)) }
