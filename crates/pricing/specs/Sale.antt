@@ -4,10 +4,15 @@ use Rattle.tariffs.specs.LowerOf.{lower}
 use Rattle.tariffs.specs.Source.{Meaning}
 use Rattle.tariffs.specs.ZoneTariff.{tariff_means}
 use Rattle.pricing.specs.declared.sale.Sale.{Sale}
-use Rattle.pricing.specs.declared.sale.Sale.TheVariants.{DayAhead, Capped, FreePrice}
+use Rattle.pricing.specs.declared.sale.Terms.{Terms}
+use Rattle.pricing.specs.declared.sale.Terms.TheVariants.{DayAhead, Capped, FreePrice}
 
--- what a sale means: the table, the lower of it and the cap, or the free price whatever the table says
+-- the terms of a sale: the table, the lower of it and the cap, or the free price whatever a table says
+abbrev pub on_terms : Terms → Meaning
+on_terms (DayAhead table) = table_means table
+on_terms (Capped table cap) = lower (table_means table) (tariff_means cap)
+on_terms (FreePrice price) = tariff_means price
+
+-- what a sale means
 abbrev pub sale_means : Sale → Meaning
-sale_means (DayAhead table) = table_means table
-sale_means (Capped table cap) = lower (table_means table) (tariff_means cap)
-sale_means (FreePrice price) = tariff_means price
+sale_means sale = on_terms sale.terms
