@@ -66,6 +66,8 @@ impl DayAheadTable<'_> {
 impl PriceSource for DayAheadTable<'_> {
     ghost means = { table_means };
 
+    // The lemma is for makes from outside too: what any table means at any hour is sound.
+    #[tactic(auto, using(crate::proofs::Listed::table_sound))]
     fn price(&mut self, at: Stamp) -> Result<u32, SourceFault> {
         self.list.ok_or(OUTSIDE)?.price(at)
     }
