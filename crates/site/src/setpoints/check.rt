@@ -1,12 +1,14 @@
 // Twelve numbers become setpoints, or are refused for the first reason that applies.
-ghost use Rattle.calendar.specs.Calendar.{within};
+ghost use Rattle.calendar.specs.Calendar.{number as month_number, within};
 ghost use Rattle.site.specs.Reads.{Converts, Reads};
-ghost use Rattle.site.specs.Setpoints.{Checked};
+ghost use Rattle.site.specs.Setpoints.{Checked, is_month_number};
+ghost use Rattle.site.specs.declared.setpoint.Setpoint.TheVariants.{FirstMonth};
 
 use super::Setpoints;
 use crate::fault::SetpointFault;
 use crate::setpoint::Setpoint;
 use crate::values::{AccountNumber, Kopiykas, Watts};
+use calendar::Month;
 
 // A value of a range, which is the setpoint's and not its unit's: a watt has no bound of its own.
 fn ranged(setpoint: Setpoint, value: u32, least: u32, most: u32) -> Result<u32, SetpointFault>
@@ -27,6 +29,13 @@ where
     T::try_from(value).map_err(|_| SetpointFault::NotAllowed(setpoint))
 }
 
+// Year × 100 + month. A call of its own, since its proof names a lemma: so the check needs none, and an edit there fails at a fact.
+fn first_month(value: u32) -> Result<Month, SetpointFault>
+    ensures { Reads FirstMonth value (is_month_number value) (λ m. month_number m.year m.month) result }
+{
+    read(Setpoint::FirstMonth, value)
+}
+
 impl Setpoints {
     // The twelve numbers in their order, setpoint 1 first: accepted where each is allowed and the installed power is
     // not above the contracted. Else refusal 1 with the lowest setpoint that is not allowed, then 2. No try_from: the name says
@@ -45,7 +54,7 @@ impl Setpoints {
         let distribution = read(Setpoint::Distribution, numbers[7])?;
         let transmission = read(Setpoint::Transmission, numbers[8])?;
         let storage = read(Setpoint::StorageMetered, numbers[9])?;
-        let first_month = read(Setpoint::FirstMonth, numbers[10])?;
+        let first_month = first_month(numbers[10])?;
         let payout_floor = Kopiykas(ranged(Setpoint::PayoutFloor, numbers[11], 1, 1_000_000_000)?);
         if installed_power.0 > contracted_power.0 {
             return Err(SetpointFault::InstalledAboveContracted);
