@@ -17,7 +17,7 @@ use figures::figures_that_hold;
 use market::{DayAheadTable, PriceList};
 use pricing::StandardChoice;
 use roles::PricedSite;
-use rows::{AskedRow, RefusalRow, SetpointRow};
+use rows::{AskedRow, RefusalRow, SetpointRow, laid_out};
 use site::{Setpoint, Setpoints};
 use std::fmt::Display;
 use std::io;
@@ -26,6 +26,14 @@ use std::process::ExitCode;
 use tariffs::PriceSource;
 use typed::Typed;
 
+// The message of a fault, which is laid out whole as the lines are.
+fn message(rt: &HostRuntime, fault: SheetFault) -> anyhow::Error {
+    match laid_out(rt.alloc(), fault) {
+        Ok(text) => anyhow!(text),
+        Err(error) => anyhow!(error),
+    }
+}
+
 // The twelve numbers of standard input, or the line that stops them.
 fn typed_in(rt: &HostRuntime) -> anyhow::Result<[u32; 12]> {
     let mut typed = Typed::none();
@@ -33,16 +41,22 @@ fn typed_in(rt: &HostRuntime) -> anyhow::Result<[u32; 12]> {
     let mut last = 0;
     for (line, text) in (1u64..).zip(rt.lines(rt.alloc())) {
         let text = text.map_err(|error| anyhow!("line {line}: {error}"))?;
-        typed = typed
-            .read_line(text.as_bytes())
-            .map_err(|fault| SheetFault::Unreadable { line, fault })?;
+        typed = typed.read_line(text.as_bytes()).map_err(|fault| message(
+            rt,
+            SheetFault::Unreadable { line, fault },
+        ))?;
         last = line;
     }
-    let numbers = typed.twelve().ok_or(SheetFault::TooFew {
+    let few = SheetFault::TooFew {
         line: last,
         count: typed.count(),
-    })?;
-    Ok(numbers)
+    };
+    typed.twelve().ok_or_else(|| message(rt, few))
+}
+
+// A row's line, or none of it.
+fn show_row<R: Display + Drop>(rt: &HostRuntime, row: R) -> io::Result<()> {
+    rt.println(laid_out(rt.alloc(), row)?)
 }
 
 // The twelve setpoints with their numbers, and the verdict on them.
@@ -53,9 +67,9 @@ fn show_setpoints<V: Display + Drop>(
 ) -> io::Result<()> {
     println!(rt; "Setpoints")?;
     for (setpoint, value) in Setpoint::all().into_iter().zip(numbers) {
-        rt.println(SetpointRow { setpoint, value })?;
+        show_row(rt, SetpointRow { setpoint, value })?;
     }
-    rt.println(verdict)
+    show_row(rt, verdict)
 }
 
 // A row for each hour of a month whose index lies in a range.
@@ -68,7 +82,7 @@ fn show_hours<R: Display + Drop, F: Fn(Stamp) -> R>(
     requires { F.IsAlwaysCallable row }
 {
     for at in indices.filter_map(|index| month.stamp_at(index)) {
-        rt.println(row(at))?;
+        show_row(rt, row(at))?;
     }
     Ok(())
 }
@@ -97,23 +111,32 @@ fn show_faults(rt: &HostRuntime, site: PricedSite) -> io::Result<()> {
     let mut table = site.table;
     let mut choice = StandardChoice::new(&site.setpoints, table);
     if let Some(at) = neighbour(site.setpoints.first_month).stamp_at(0) {
-        rt.println(AskedRow {
-            what: "outside the table's month",
-            at,
-            answer: table.price(at),
-        })?;
+        show_row(
+            rt,
+            AskedRow {
+                what: "outside the table's month",
+                at,
+                answer: table.price(at),
+            },
+        )?;
     }
     if let Some(at) = site.setpoints.first_month.stamp_at(12) {
-        rt.println(AskedRow {
-            what: "a missing price",
-            at,
-            answer: table.price(at),
-        })?;
-        rt.println(AskedRow {
-            what: "the same, through a lower-of",
-            at,
-            answer: choice.excess.price(at),
-        })?;
+        show_row(
+            rt,
+            AskedRow {
+                what: "a missing price",
+                at,
+                answer: table.price(at),
+            },
+        )?;
+        show_row(
+            rt,
+            AskedRow {
+                what: "the same, through a lower-of",
+                at,
+                answer: choice.excess.price(at),
+            },
+        )?;
     }
     Ok(())
 }

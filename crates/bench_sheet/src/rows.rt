@@ -1,13 +1,22 @@
 // The sheet's lines.
-ghost use Rattle.std.specs.Prelude.{◌≡◌, Some};
+ghost use Rattle.std.specs.Prelude.{◌≡◌, IfOk, IfSome, Some, string_bytes};
 ghost use Rattle.bench_sheet.specs.Rows.{asked_row, refusal_row, setpoint_row, unit as unit_of, zone_row};
 
 use crate::columns::{AnswerColumn, CoefficientColumn, PerKwh};
 use crate::texts::{Answer, DateAndHour, HourStart};
 use calendar::{Returned, Stamp};
 use site::{Setpoint, SetpointFault};
+use std::alloc::{AllocError, Global};
 use std::fmt;
+use std::fmt::Display;
 use tariffs::{Coefficient, SourceFault};
+
+// A row's line, before any of it is printed: a text that its row does not end well writes none of it.
+pub fn laid_out<R: Display + Drop>(heap: Global, row: R) -> Result<String, AllocError>
+    ensures { IfOk result (λ line. IfSome (R.output row) (λ text. string_bytes line ≡ text)) }
+{
+    row.to_string(heap)
+}
 
 // What a setpoint is measured in.
 fn unit(setpoint: Setpoint) -> &'static str
