@@ -1,5 +1,5 @@
 -- The numbers of a line of text. Assumes nothing.
-use Rattle.std.specs.Prelude.{◌≡◌, ℕ, ◌+◌, ◌-◌, ◌*◌, ◌^◌, ◌<◌, ◌≤◌, Bool, cond, ◌||◌, List, [], ◌∷◌, ◌++◌, length, Some, None, Ok, Err, decimal, Option, Result, MatchResult, ◌==◌, nat_lt}
+use Rattle.std.specs.Prelude.{◌≡◌, ℕ, ◌+◌, ◌-◌, ◌*◌, ◌^◌, ◌<◌, ◌≤◌, Bool, cond, ◌||◌, List, [], ◌∷◌, ◌++◌, length, take, Some, None, Ok, Err, decimal, Option, Result, MatchResult, ◌==◌, nat_lt}
 use Rattle.std.specs.List.{flat_map, AllByRecursion}
 use Rattle.calendar.specs.Calendar.{within}
 use Rattle.bench_sheet.specs.declared.fault.LineFault.{LineFault}
@@ -8,7 +8,7 @@ use Rattle.bench_sheet.specs.declared.typed.Typed.{Typed}
 
 -- the numbers that were typed in so far
 abbrev pub entered : Typed → List ℕ
-entered t = t.numbers.items
+entered t = take t.count t.numbers
 
 -- what stands before the first #
 abbrev pub uncommented : List ℕ → List ℕ

@@ -1,9 +1,11 @@
 // The numbers that were typed in so far, at most twelve.
+ghost use Rattle.std.specs.Prelude.{◌≤◌};
+
 mod reading;
 
-use arrayvec::ArrayVec;
-
-#[derive(Drop)]
+#[derive(Clone, Copy)]
 pub struct Typed {
-    numbers: ArrayVec<u32, 12>,
+    numbers: [u32; 12],
+    count: usize,
+    ghost few: { count ≤ 12 },
 }

@@ -5,7 +5,6 @@ ghost use Rattle.bench_sheet.specs.Reading.{ended as ended_by, entered, grown as
 
 use super::Typed;
 use crate::fault::LineFault;
-use arrayvec::ArrayVec;
 
 // Where the comment of a line starts, if it has one.
 fn comment_start(line: &[u8]) -> Option<usize>
@@ -35,7 +34,7 @@ fn grown(begun: Option<u32>, byte: u8, column: usize) -> Result<u32, LineFault>
 }
 
 // What was read of a line: the numbers, and one that is begun.
-#[derive(Drop)]
+#[derive(Clone, Copy)]
 struct Scan {
     typed: Typed,
     begun: Option<u32>,
@@ -68,7 +67,8 @@ impl Typed {
         ensures law { ReadsBack }
     {
         Typed {
-            numbers: ArrayVec::new(),
+            numbers: [0; 12],
+            count: 0,
         }
     }
 
@@ -88,27 +88,38 @@ impl Typed {
     }
 
     // The number that is begun, if one is, behind the others.
+    #[tactic(auto, using(crate::proofs::Numbers::ended_more))]
     fn ended(self, begun: Option<u32>) -> Result<Typed, LineFault>
         ensures { MatchResult result (λ t. ended_by (entered self) begun ≡ Ok (entered t)) (λ e. ended_by (entered self) begun ≡ Err e) }
     {
-        let mut numbers = self.numbers;
-        if let Some(number) = begun {
-            numbers.try_push(number).map_err(|_| LineFault::TooMany)?;
+        let Some(number) = begun else {
+            return Ok(self);
+        };
+        if self.count >= 12 {
+            return Err(LineFault::TooMany);
         }
-        Ok(Typed { numbers })
+        let mut numbers = self.numbers;
+        numbers[self.count] = number;
+        Ok(Typed {
+            numbers,
+            count: self.count + 1,
+        })
     }
 
     // How many numbers were typed in.
     pub fn count(&self) -> usize
         ensures answer { result ≡ length (entered self.now) }
     {
-        self.numbers.len()
+        self.count
     }
 
     // All twelve, where there are twelve.
     pub fn twelve(&self) -> Option<[u32; 12]>
         ensures answer { MatchOption result (length (entered self.now) < 12) (λ ns. ns ≡ entered self.now) }
     {
-        self.numbers.as_slice().try_into().ok()
+        if self.count < 12 {
+            return None;
+        }
+        Some(self.numbers)
     }
 }
