@@ -27,7 +27,7 @@ use tariffs::PriceSource;
 use typed::Typed;
 
 // The message of a fault, which is laid out whole as the lines are.
-fn message(rt: &HostRuntime, fault: SheetFault) -> anyhow::Error {
+fn message<M: Display + Drop>(rt: &HostRuntime, fault: M) -> anyhow::Error {
     match laid_out(rt.alloc(), fault) {
         Ok(text) => anyhow!(text),
         Err(error) => anyhow!(error),
@@ -152,7 +152,7 @@ fn show_prices(rt: &HostRuntime, setpoints: &Setpoints) -> anyhow::Result<()> {
     };
     let table = list
         .check()
-        .map_err(|fault| anyhow!("the day-ahead list is refused: {fault}"))?
+        .map_err(|fault| message(rt, format_args!("the day-ahead list is refused: {fault}")))?
         .table();
     let site = PricedSite {
         setpoints: *setpoints,

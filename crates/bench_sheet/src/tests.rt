@@ -1,7 +1,7 @@
 // Lines of a sheet, and what is read of them.
 use crate::fault::LineFault;
 use crate::roles::PricedSite;
-use crate::rows::AskedRow;
+use crate::rows::{AskedRow, laid_out};
 use crate::typed::Typed;
 use crate::{day_ahead, show_prices};
 use calendar::{CalendarFault, Stamp};
@@ -149,7 +149,7 @@ fn prices_by_role_and_hours_with_no_price(rt: HostRuntime) -> Result<(), Fail> {
     for (index, line) in ROLES {
         let at = month.stamp_at(index).ok_or(CalendarFault::NotInMonth)?;
         let row = site.priced(at);
-        assert_eq!(rt; row.to_string(rt.alloc())?.as_str(), line);
+        assert_eq!(rt; laid_out(rt.alloc(), row)?.as_str(), line);
     }
     // the three questions with no price go to the table, and to the lower-of for excess energy
     let mut table = checked.table();
@@ -164,7 +164,7 @@ fn prices_by_role_and_hours_with_no_price(rt: HostRuntime) -> Result<(), Fail> {
     ];
     for ((what, line), at, answer) in asked {
         let row = AskedRow { what, at, answer };
-        assert_eq!(rt; row.to_string(rt.alloc())?.as_str(), line);
+        assert_eq!(rt; laid_out(rt.alloc(), row)?.as_str(), line);
     }
     show_prices(&rt, &setpoints)?;
     Ok(())
