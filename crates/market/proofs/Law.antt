@@ -68,10 +68,12 @@ as_checked list = as_listed list.month list.prices.now list.as_long list.each_ma
 pub says_outside : (list : CheckedPrices) (at : Stamp) → (its_month at ≡ list.month → ⊥) → list_means list at ≡ Err outside_month
 says_outside list at other = (as_checked list).outside at other
 
-pub says_missing : (list : CheckedPrices) (at : Stamp) (i : ℕ) → its_month at ≡ list.month → Placed (its_month at) i at → get_or list.prices.now i 0 ≡ mark → list_means list at ≡ Err missing_price
-says_missing list at i same placed is =
-    (as_checked list).missing at i (subst (λ m. Placed m i at) same placed) is
+-- the number that stands where the hour is placed, at whatever index that was computed
+pub says_missing : (list : CheckedPrices) (at : Stamp) (i j : ℕ) → its_month at ≡ list.month → Placed (its_month at) i at → j ≡ i → get_or list.prices.now j 0 ≡ mark → list_means list at ≡ Err missing_price
+says_missing list at i j same placed e is =
+    (as_checked list).missing at i (subst (λ m. Placed m i at) same placed) (ap (λ k. get_or list.prices.now k 0) (sym e) ∙ is)
 
-pub says_price : (list : CheckedPrices) (at : Stamp) (i : ℕ) → its_month at ≡ list.month → Placed (its_month at) i at → (get_or list.prices.now i 0 ≡ mark → ⊥) → list_means list at ≡ Ok (get_or list.prices.now i 0)
-says_price list at i same placed other =
-    (as_checked list).listed at i (subst (λ m. Placed m i at) same placed) other
+pub says_price : (list : CheckedPrices) (at : Stamp) (i j : ℕ) → its_month at ≡ list.month → Placed (its_month at) i at → j ≡ i → (get_or list.prices.now j 0 ≡ mark → ⊥) → list_means list at ≡ Ok (get_or list.prices.now j 0)
+says_price list at i j same placed e other =
+    let here = ap (λ k. get_or list.prices.now k 0) e in
+    (as_checked list).listed at i (subst (λ m. Placed m i at) same placed) (λ is. other (here ∙ is)) ∙ ap (λ n. Ok n) (sym here)
