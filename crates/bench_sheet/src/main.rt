@@ -17,7 +17,7 @@ use figures::figures_that_hold;
 use market::{DayAheadTable, PriceList};
 use pricing::StandardChoice;
 use roles::PricedSite;
-use rows::{AskedRow, RefusalRow, SetpointRow, laid_out};
+use rows::{AskedRow, RefusalRow, SetpointRow, laid_out, message};
 use site::{Setpoint, Setpoints};
 use std::fmt::Display;
 use std::io;
@@ -26,12 +26,9 @@ use std::process::ExitCode;
 use tariffs::PriceSource;
 use typed::Typed;
 
-// The message of a fault, which is laid out whole as the lines are.
-fn message<M: Display + Drop>(rt: &HostRuntime, fault: M) -> anyhow::Error {
-    match laid_out(rt.alloc(), fault) {
-        Ok(text) => anyhow!(text),
-        Err(error) => anyhow!(error),
-    }
+// What a fault ends the program with: its message, or that there is no memory for it.
+fn failure<M: Display + Drop>(rt: &HostRuntime, fault: M) -> anyhow::Error {
+    message(rt.alloc(), fault).unwrap_or_else(anyhow::Error::from)
 }
 
 // The twelve numbers of standard input, or the line that stops them.
@@ -41,7 +38,7 @@ fn typed_in(rt: &HostRuntime) -> anyhow::Result<[u32; 12]> {
     let mut last = 0;
     for (line, text) in (1u64..).zip(rt.lines(rt.alloc())) {
         let text = text.map_err(|error| anyhow!("line {line}: {error}"))?;
-        typed = typed.read_line(text.as_bytes()).map_err(|fault| message(
+        typed = typed.read_line(text.as_bytes()).map_err(|fault| failure(
             rt,
             SheetFault::Unreadable { line, fault },
         ))?;
@@ -51,7 +48,7 @@ fn typed_in(rt: &HostRuntime) -> anyhow::Result<[u32; 12]> {
         line: last,
         count: typed.count(),
     };
-    typed.twelve().ok_or_else(|| message(rt, few))
+    typed.twelve().ok_or_else(|| failure(rt, few))
 }
 
 // A row's line, or none of it.
@@ -152,7 +149,7 @@ fn show_prices(rt: &HostRuntime, setpoints: &Setpoints) -> anyhow::Result<()> {
     };
     let table = list
         .check()
-        .map_err(|fault| message(rt, format_args!("the day-ahead list is refused: {fault}")))?
+        .map_err(|fault| failure(rt, format_args!("the day-ahead list is refused: {fault}")))?
         .table();
     let site = PricedSite {
         setpoints: *setpoints,

@@ -1,5 +1,6 @@
 // The sheet's lines.
 ghost use Rattle.std.specs.Prelude.{◌≡◌, IfOk, IfSome, Some, string_bytes};
+ghost use Rattle.anyhow.specs.Error.{HasMessage};
 ghost use Rattle.bench_sheet.specs.Rows.{asked_row, refusal_row, setpoint_row, unit as unit_of, zone_row};
 
 use crate::columns::{AnswerColumn, CoefficientColumn, PerKwh};
@@ -11,11 +12,18 @@ use std::fmt;
 use std::fmt::Display;
 use tariffs::{Coefficient, SourceFault};
 
-// A row's line, before any of it is printed: a text that its row does not end well writes none of it.
+// A row's line as a text, made before any of it is printed: where its row ends with an error there is none.
 pub fn laid_out<R: Display + Drop>(heap: Global, row: R) -> Result<String, AllocError>
     ensures { IfOk result (λ line. IfSome (R.output row) (λ text. string_bytes line ≡ text)) }
 {
     row.to_string(heap)
+}
+
+// The error whose message is a fault's text. It holds 120 bytes of it.
+pub fn message<M: Display + Drop>(heap: Global, fault: M) -> Result<anyhow::Error, AllocError>
+    ensures { IfOk result (λ error. HasMessage (M.output fault) error) }
+{
+    Ok(anyhow::Error::msg(laid_out(heap, fault)?))
 }
 
 // What a setpoint is measured in.
