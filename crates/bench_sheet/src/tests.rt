@@ -1,7 +1,7 @@
 // Lines of a sheet, and what is read of them.
-use crate::fault::LineFault;
+use crate::fault::{LineFault, SheetFault};
 use crate::roles::PricedSite;
-use crate::rows::{AskedRow, laid_out};
+use crate::rows::{AskedRow, laid_out, message};
 use crate::typed::Typed;
 use crate::{day_ahead, show_prices};
 use calendar::{CalendarFault, Stamp};
@@ -79,6 +79,44 @@ fn a_sheet_of_several_lines_reads_as_typed(rt: HostRuntime) -> Result<(), Fail> 
             100245, 50000, 30000, 3, 432000, 300000, 2, 150000, 40000, 1, 202601, 10000,
         ])
     );
+    Ok(())
+}
+
+// Why a sheet is malformed, and the message.
+const MESSAGES: [(SheetFault, &str); 4] = [
+    (
+        SheetFault::Unreadable {
+            line: 2,
+            fault: LineFault::NotADigit(3),
+        },
+        "line 2, column 3: not a digit, a blank or a #",
+    ),
+    (
+        SheetFault::Unreadable {
+            line: 1,
+            fault: LineFault::TooLarge(10),
+        },
+        "line 1, column 10: a number above 4294967295",
+    ),
+    (
+        SheetFault::Unreadable {
+            line: 18_446_744_073_709_551_615,
+            fault: LineFault::TooMany,
+        },
+        "line 18446744073709551615: more than twelve numbers",
+    ),
+    (
+        SheetFault::TooFew { line: 0, count: 0 },
+        "after line 0: only 0 of twelve numbers",
+    ),
+];
+
+#[test]
+fn messages_of_malformed_sheets(rt: HostRuntime) -> Result<(), Fail> {
+    for (fault, expected) in MESSAGES {
+        let error = message(rt.alloc(), fault)?;
+        assert_eq!(rt; error.to_string(rt.alloc())?.as_str(), expected);
+    }
     Ok(())
 }
 
